@@ -1,0 +1,14 @@
+pub mod Interfaces
+pub mod Chain
+pub mod Sum
+pub mod Simple
+pub mod Order
+pub mod Unique
+pub mod Agreement
+pub mod Named
+pub mod Rounds
+pub mod Finished
+pub mod Keys
+pub mod Entries
+pub mod Walk
+pub mod Demand3

@@ -1,0 +1,50 @@
+-- The three kinds of entry and the key links (document 01, "Paths and tables"; source documents 000, section II, and 001, section 2).
+-- Everything is said by interface, so that it also holds where two links join one pair of nodes.
+use mathlib.Core.Path.{_≡_}
+use mathlib.Core.Logic.{_≢_}
+use mathlib.Core.List.{List, _∷_, _++_}
+use Prim.Native.Nat.{ℕ}
+use Rattle.graph.specs.Network.{Network, link, reverse, tail, head}
+use Rattle.graph.specs.Path.{Path, Over, BestPath, All, But}
+
+-- "An entry is one byte: a node; 254 where d is the deciding node itself (the check for 254 comes first); 255 where no path exists."
+-- Here the node is told by the interface that leads to it.
+pub data Hop : Type 0 where
+  here : Hop
+  onward : ℕ → Hop
+  nowhere : Hop
+
+-- the first interface on the best path from i to d over the links left in
+pub data Entry (N : Network) (X : ℕ → Type 0) (i d : ℕ) : Hop → Type 0 where
+  at-destination : i ≡ d → Entry N X i d here
+  starts : {f : ℕ} {p : List ℕ} → i ≢ d → BestPath N X i (f ∷ p) d → Entry N X i d (onward f)
+  lacks : i ≢ d → ((p : List ℕ) → Path N i p d → Over X p → ⊥) → Entry N X i d nowhere
+
+-- "Routing entry of i for d: the first node after i on the best path."
+abbrev pub RoutingEntry : Network → ℕ → ℕ → Hop → Type 0
+RoutingEntry N d i = Entry N All i d
+
+-- "Key links of interface j to i for d: every link u-v, in either of its directions taken as u to v, such that with all links
+-- present j is the routing entry of i for d, and without that link the best path from u to d crosses from j to i."
+-- The interface is h; the direction of the link k is `from`, which leaves u.
+pub record KeyLink (N : Network) (d h k : ℕ) : Type 0 where
+  pub present : N .Present k
+  pub onward : List ℕ
+  pub routing : BestPath N All (head N h) (reverse h ∷ onward) d
+  pub from : ℕ
+  pub from-link : link from ≡ k
+  pub before : List ℕ
+  pub after : List ℕ
+  pub crosses : BestPath N (But k) (tail N from) (before ++ h ∷ after) d
+
+-- the links that are no key links of interface h for d
+abbrev pub Free : Network → ℕ → ℕ → ℕ → Type 0
+Free N d h k = KeyLink N d h k → ⊥
+
+-- "Forwarding entry of interface j to i for d: the first node on the best path from i to d when all those key links are taken out."
+abbrev pub ForwardingEntry : Network → ℕ → ℕ → Hop → Type 0
+ForwardingEntry N d h = Entry N (Free N d h) (head N h) d
+
+-- "Backwarding entry of interface i to j for d: the first node on the best path from i to d when link i-j is taken out."
+abbrev pub BackwardingEntry : Network → ℕ → ℕ → Hop → Type 0
+BackwardingEntry N d h = Entry N (But (link h)) (tail N h) d

@@ -1,0 +1,5 @@
+pub mod Network
+pub mod Path
+pub mod Entries
+pub mod Walk
+pub mod Set
