@@ -13,7 +13,7 @@ use Rattle.graph.proofs.Simple.{Cut, cut, simple, get}
 use Rattle.graph.proofs.Order.{path-better, rule-for-equal-paths}
 use Rattle.graph.proofs.Unique.{unique}
 
--- B2: what a best path is made of, round one of its interfaces, is best
+-- B2: the parts of a best path round one of its interfaces are best
 pub record BestParts (N : Network) (X : ℕ → Type 0) (i : ℕ) (a : List ℕ) (f : ℕ) (b : List ℕ) (d : ℕ) : Type 0 where
   pub upto : BestPath N X i a (tail N f)
   pub from : BestPath N X (tail N f) (f ∷ b) d
@@ -63,12 +63,12 @@ module _ (N : Network) (W : WellFormed N) where
         after = best-path (best-after N a f b r);
       }
 
-  -- B4, fewer links
+  -- B4
   pub best-path-fewer : {X Y : ℕ → Type 0} {i d : ℕ} {p : List ℕ} → ((k : ℕ) → Y k → X k) → Over Y p
       → BestPath N X i p d → BestPath N Y i p d
   best-path-fewer f o t = record { path = t .path; over = o; best = λ q s r. t .best q s (over-weaken N f r) }
 
-  -- B5: a best path is found, or there is no path
+  -- B5
   pub best-path-exists : {X : ℕ → Type 0} → ((k : ℕ) → Dec (X k)) → (i d : ℕ)
       → ((p : List ℕ) × BestPath N X i p d) ⊎ ((p : List ℕ) → Path N i p d → Over X p → ⊥)
   best-path-exists left-in? i d =

@@ -1,6 +1,9 @@
 -- Best chains: the working notion behind best paths. The cost of a link is one number, weight first and then the rule for equal
 -- paths, so that "best" is "least cost"; least among all chains, not only among paths, so that parts of best chains are best by
 -- plain sums. That the two notions agree is proved in Agreement.
+-- Five facts carry the theory. There is only one best chain between two nodes (B1, in Unique). Its parts are best (B2). Read from
+-- the other end it is best too (B3). It stays best when links are taken out that it does not use (B4). And where a chain is, there is
+-- a best one, which can be found (B5, in Simple).
 use mathlib.Core.Path.{_≡_, refl, sym, ap, _∙_}
 use mathlib.Core.Logic.{_⊎_, inl, inr}
 use mathlib.Core.List.{List, [], _∷_, _++_, append-assoc}
@@ -74,6 +77,9 @@ module _ (N : Network) where
       let present : N .Present (link (reverse f)) = rw link-reverse u in
       chain-append (back p) (reverse f ∷ []) (chain-back c) (step present (tail-reverse N f) (stop (head-reverse N f ∙ e)))
 
+  pub chain-nil : {i d : ℕ} → Chain N i [] d → i ≡ d
+  chain-nil (stop e) = e
+
   pub first-present : {i f d : ℕ} {p : List ℕ} → Chain N i (f ∷ p) d → N .Present (link f)
   first-present (step u e c) = u
 
@@ -92,11 +98,6 @@ module _ (N : Network) where
   pub chain-after : {i d : ℕ} (a : List ℕ) (f : ℕ) (b : List ℕ) → Chain N i (a ++ f ∷ b) d → Chain N (head N f) b d
   chain-after [] f b (step u e c) = c
   chain-after (g ∷ a) f b (step u e c) = chain-after a f b c
-
-  -- what is left of a chain after a part that ends at x starts at x
-  pub chain-rest : {i x d : ℕ} (a b : List ℕ) → Chain N i a x → Chain N i (a ++ b) d → Chain N x b d
-  chain-rest [] b (stop e) c = rw e at c
-  chain-rest (f ∷ a) b (step u e s) (step v e₂ c) = chain-rest a b s c
 
   module _ {X : ℕ → Type 0} where
     pub first-over : {f : ℕ} {p : List ℕ} → Over X (f ∷ p) → X (link f)
@@ -120,7 +121,7 @@ module _ (N : Network) where
         let turned : X (link (reverse f)) = rw link-reverse x in
         over-append (back p) (reverse f ∷ []) (over-back o) (both turned none)
 
-    -- B2, parts of a best chain are best
+    -- B2
     pub best-upto : {i d : ℕ} (a : List ℕ) (f : ℕ) (b : List ℕ) → Best N X i (a ++ f ∷ b) d → Best N X i a (tail N f)
     best-upto a f b t = record {
       chain = chain-upto a f b (t .chain);
@@ -158,7 +159,7 @@ module _ (N : Network) where
           least = λ {q} c o. omega (arith, r .least (step present refl c) (both left-in o));
         }
 
-    -- B3, read from either end
+    -- B3
     pub best-back : {i d : ℕ} {p : List ℕ} → Best N X i p d → Best N X d (back p) i
     best-back {p = p} t = record {
       chain = chain-back (t .chain);
@@ -166,16 +167,11 @@ module _ (N : Network) where
       least = λ {q} c o. omega (arith, cost-back p, cost-back q, t .least (chain-back c) (over-back o));
     }
 
-    -- a best chain comes back to no node: a closed part costs nothing
-    pub no-cycle : {i d : ℕ} {l : List ℕ} (c : List ℕ) → Chain N i l i → Best N X i (l ++ c) d → cost N l ≡ 0
-    no-cycle {l = l} c s t =
-        omega (arith, cost-append l c, t .least (chain-rest l c s (t .chain)) (over-right l c (t .over)))
-
   pub over-weaken : {X Y : ℕ → Type 0} {p : List ℕ} → ((k : ℕ) → Y k → X k) → Over Y p → Over X p
   over-weaken f none = none
   over-weaken f (both {f = g} x o) = both (f (link g) x) (over-weaken f o)
 
-  -- B4, fewer links
+  -- B4
   pub best-fewer : {X Y : ℕ → Type 0} {i d : ℕ} {p : List ℕ} → ((k : ℕ) → Y k → X k) → Over Y p → Best N X i p d → Best N Y i p d
   best-fewer f o t = record { chain = t .chain; over = o; least = λ {q} c r. t .least c (over-weaken f r) }
 

@@ -1,9 +1,10 @@
 -- Demand 3: over right entries, a packet is delivered exactly if a chain of working links joins its source and its destination,
 -- whichever one link has failed, or none; within 2n - 3 hops, each over a working link, and over no link twice in one direction.
--- Else it is not routed at all, or dropped at the failed link. The statements come first; `demand-3`, `undisturbed` and `firm-detour`
--- at the end prove them of the walk, over the argument in Walk.
+-- Else it is not routed at all, or dropped at the failed link. What one walk does is an `Outcome`, of four kinds; the argument in Walk
+-- says which it is, and each kind has what demand 3 asks. `demand-3` is the theorem; `demand-3-by-rule` is the same for other rules
+-- of backwarding, `undisturbed` and `firm-detour` say more of the way taken.
 use mathlib.Core.Path.{_≡_, refl, sym, ap, _∙_}
-use mathlib.Core.Logic.{_⊎_, inl, inr, _≢_, _↔_}
+use mathlib.Core.Logic.{_⊎_, inl, inr, _≢_}
 use mathlib.Core.Bool.{Bool, true, false, true≢false}
 use mathlib.Core.List.{List, [], _∷_, _++_, map, append-nil}
 use mathlib.Core.Option.{Option, none, some}
@@ -15,62 +16,20 @@ use Rattle.graph.specs.Network.{Network, WellFormed, link, tail}
 use Rattle.graph.specs.Path.{Chain, Path, visits, Lies, here, later, Over, Over.none as over-none, Over.both as over-both}
 use Rattle.graph.specs.Path.{BestPath, All, But}
 use Rattle.graph.specs.Path.{Each, Each.none as each-none, Each.both as each-both, Distinct, Distinct.none as distinct-none, fresh}
-use Rattle.graph.specs.Entries.{onward, RoutingEntry}
-use Rattle.graph.specs.Walk.{Tables, failedBy, Ending, delivered, unrouted, dropped, Course, walkOf}
+use Rattle.graph.specs.Entries.{onward}
+use Rattle.graph.specs.Walk.{Tables, failedBy, Ending, delivered, unrouted, dropped, walkOf}
+use Rattle.graph.specs.Demand3.{BuiltEntries, RightEntries, LeavesIn, Works, Demand3, FirmDetour}
 use Rattle.graph.proofs.Interfaces.{tail-node}
 use Rattle.graph.proofs.Chain.{Best, back, find, chain-append, chain-back, chain-upto, chain-from, first-present, first-tail}
 use Rattle.graph.proofs.Chain.{over-append, over-left, over-back, over-weaken, best-from, best-after, over-before, over-after}
+use Rattle.graph.proofs.Sum.{each-map}
 use Rattle.graph.proofs.Unique.{unique}
 use Rattle.graph.proofs.Simple.{simple, short, distinct-links, chain-end}
 use Rattle.graph.proofs.Agreement.{path-best, best-path}
 use Rattle.graph.proofs.Keys.{over-at, over-all, all-path}
 use Rattle.graph.proofs.Entries.{hopOf, best-entry, entry-one, entry-best, no-chain-entry}
-use Rattle.graph.proofs.Walk.{LeavesIn, RightEntries, Works, Strays, Goes, laststep, goes-walk, lost-walk, follows}
-use Rattle.graph.proofs.Walk.{follows-up-to, rounds}
-
--- a chain of working links joins the two nodes
-abbrev pub Joined : Network → Option ℕ → ℕ → ℕ → Type 0
-Joined N failure s d = (p : List ℕ) × Chain N s p d × Over (Works (failedBy failure)) p
-
--- a delivered packet: its chain of hops, each over a working link, at most 2n - 3, and none twice
-pub record Arrived (N : Network) (failure : Option ℕ) (s d : ℕ) (c : Course) : Type 0 where
-  pub chain : Chain N s (c .crossed) d
-  pub works : Over (Works (failedBy failure)) (c .crossed)
-  pub hops : length (c .crossed) + 3 ≤ 2 * N .nodes
-  pub once : Distinct (c .crossed)
-
--- no entry at the start: no chain joins the two at all
-pub record Unrouted (N : Network) (s d : ℕ) (c : Course) : Type 0 where
-  pub ending : c .ending ≡ unrouted
-  pub stays : c .crossed ≡ []
-  pub no-chain : (p : List ℕ) → Chain N s p d → ⊥
-
--- dropped at the failed link: the packet came, over working links, to the tail of an interface of that link, which is the routing
--- entry there
-pub record Dropped (N : Network) (failure : Option ℕ) (s d : ℕ) (c : Course) : Type 0 where
-  pub ending : c .ending ≡ dropped
-  pub meets : ℕ
-  pub failed : failedBy failure (link meets) ≡ true
-  pub routed : RoutingEntry N d (tail N meets) (onward meets)
-  pub chain : Chain N s (c .crossed) (tail N meets)
-  pub works : Over (Works (failedBy failure)) (c .crossed)
-  pub hops : length (c .crossed) + 2 ≤ N .nodes
-
-pub record Demand3 (N : Network) (failure : Option ℕ) (s d : ℕ) (c : Course) : Type 0 where
-  pub exactly : (c .ending ≡ delivered) ↔ Joined N failure s d
-  pub arrived : c .ending ≡ delivered → Arrived N failure s d c
-  pub refused : c .ending ≢ delivered → Unrouted N s d c ⊎ Dropped N failure s d c
-
--- The detour by one link: the walk follows the best path up to the failed link, and from that node on visits no node twice.
-pub record FirmDetour (N : Network) (failure : Option ℕ) (s d : ℕ) (c : Course) : Type 0 where
-  pub before : List ℕ
-  pub meets : ℕ
-  pub failed : failedBy failure (link meets) ≡ true
-  pub after : List ℕ
-  pub best : BestPath N All s (before ++ meets ∷ after) d
-  pub rest : List ℕ
-  pub crossed : c .crossed ≡ before ++ rest
-  pub once : Distinct (visits N (tail N meets) rest)
+use Rattle.graph.proofs.Walk.{own-link-out, built-right, Strays, Goes, laststep, goes-walk, lost-walk, follows}
+use Rattle.graph.proofs.Walk.{follows-up-to, at-failed-link}
 
 -- How a walk from s goes, by the interfaces crossed and the ending.
 data Outcome (N : Network) (failed : ℕ → Bool) (s d : ℕ) : List ℕ → Ending → Type 0 where
@@ -83,10 +42,6 @@ data Outcome (N : Network) (failed : ℕ → Bool) (s d : ℕ) : List ℕ → En
       → p ≡ a ++ way → Outcome N failed s d p delivered
 
 -- lists without repetition
-each-map : {P Q : ℕ → Type 0} {l : List ℕ} → ((x : ℕ) → P x → Q x) → Each P l → Each Q l
-each-map f each-none = each-none
-each-map f (each-both p e) = each-both (f _ p) (each-map f e)
-
 each-append : {P : ℕ → Type 0} {a b : List ℕ} → Each P a → Each P b → Each P (a ++ b)
 each-append each-none e₂ = e₂
 each-append (each-both p e) e₂ = each-both p (each-append e e₂)
@@ -105,7 +60,7 @@ other-links over-none = each-none
 other-links (over-both n o) = each-both (λ e. n (ap link (sym e))) (other-links o)
 
 module _ (N : Network) (W : WellFormed N) {d : ℕ} where
-  -- W7: the interfaces before the failed link lead over it, those that come after stray from it
+  -- no interface twice: those before the failed link lead over it, those that come after stray from it
   once-both : {i : ℕ} {way : List ℕ} (a : List ℕ) (f : ℕ) (b : List ℕ) → Best N All i (a ++ f ∷ b) d
       → Each (Strays N d (link f)) way → Distinct way → Distinct (a ++ way)
   once-both [] f b t strays once = once
@@ -122,7 +77,7 @@ module _ (N : Network) (W : WellFormed N) {d : ℕ} where
   path-once : {i : ℕ} {p : List ℕ} → Path N i p d → Distinct p
   path-once {i} {p} t = distinct-unmap link p (distinct-links N W t)
 
-  -- W6: the walk meets the failed link after at most n - 2 hops
+  -- the walk meets the failed link after at most n - 2 hops
   room : {s : ℕ} → s < N .nodes → (a : List ℕ) (f : ℕ) (b : List ℕ) → Best N All s (a ++ f ∷ b) d → length a + 2 ≤ N .nodes
   room s-node a f b t = omega (arith, short N W s-node (simple N W t), length-append a (f ∷ b))
 
@@ -231,7 +186,7 @@ module _ (N : Network) (W : WellFormed N) (d : ℕ) (Y : ℕ → ℕ → Type 0)
       → (q : List ℕ) × (r : Ending) × Outcome N (failedBy failure) s d q r
       × (walkOf N (failedBy failure) T d limit s ≡ record { crossed = q; ending = r })
   meeting {p} t₀ m =
-      elim (rounds N W d Y leaves T right (failedBy failure) (m .down) (m .only) (best-from N a f b t)) [
+      elim (at-failed-link N W d Y leaves T right (failedBy failure) (m .down) (m .only) (best-from N a f b t)) [
         | inl (way, R) ↦ (
           a ++ way,
           delivered,
@@ -295,8 +250,8 @@ module _ (N : Network) (W : WellFormed N) (d : ℕ) (Y : ℕ → ℕ → Type 0)
         ]
       ]
 
-  pub demand-3 : Demand3 N failure s d (walkOf N (failedBy failure) T d limit s)
-  demand-3 = let (q, r, o, e) = outcome in rw e (outcome-demand N W failure s-node apart-ends o)
+  pub demand-3-by-rule : Demand3 N failure s d (walkOf N (failedBy failure) T d limit s)
+  demand-3-by-rule = let (q, r, o, e) = outcome in rw e (outcome-demand N W failure s-node apart-ends o)
 
   -- a walk whose best path works is that path
   pub undisturbed : {p : List ℕ} → BestPath N All s p d → Over (Works (failedBy failure)) p
@@ -305,7 +260,7 @@ module _ (N : Network) (W : WellFormed N) (d : ℕ) (Y : ℕ → ℕ → Type 0)
       let t = path-best N W best in
       routed t (follows N W d Y leaves T right (failedBy failure) p t works) (omega (arith, short N W s-node (simple N W t)))
 
-  -- W5: a walk that meets a failed link follows the best path up to it, and from that node on visits no node twice
+  -- a walk that meets a failed link follows the best path up to it, and from that node on visits no node twice
   pub firm-detour : {p : List ℕ} {k : ℕ} → BestPath N All s p d → Lies k p → failedBy failure k ≡ true
       → FirmDetour N failure s d (walkOf N (failedBy failure) T d limit s)
   unfolding visits
@@ -327,3 +282,9 @@ module _ (N : Network) (W : WellFormed N) (d : ℕ) (Y : ℕ → ℕ → Type 0)
       }
       by-outcome (round a f b way t fails works path works-on strays e) = record
           { before = a; meets = f; failed = fails; after = b; best = best-path N W t; rest = way; crossed = e; once = path .once }
+
+-- demand 3, over the entries of document 01
+pub demand-3 : (N : Network) → WellFormed N → (T : Tables) (d : ℕ) → BuiltEntries N d T → (failure : Option ℕ) (s limit : ℕ)
+    → s < N .nodes → d < N .nodes → s ≢ d → 2 * N .nodes ≤ limit + 3
+    → Demand3 N failure s d (walkOf N (failedBy failure) T d limit s)
+demand-3 N W T d built = demand-3-by-rule N W d (λ h. But (link h)) (own-link-out N d) T (built-right built)

@@ -1,6 +1,6 @@
 -- Entries: each is determined, each exists, and how the forwarding entry may be computed. All of it follows from the best path: an
 -- entry is its first interface. Of forwarding entries: where the interface has no key links nothing is taken out, so it is the
--- routing entry of the head; else taking out the key link nearest the destination is enough (K2). So where the head is joined to
+-- routing entry of the head; else taking out the key link nearest the destination is enough (K2, in Keys). So where the head is joined to
 -- the destination at all, the forwarding entry leads somewhere.
 use mathlib.Core.Path.{_≡_, refl, sym, ap, _∙_, subst}
 use mathlib.Core.Logic.{_⊎_, inl, inr, _≢_, _↔_}
@@ -9,34 +9,22 @@ use Prim.Native.Nat.{ℕ, _+_, _≤_}
 use native.Mathlib.Decide.{ℕ-discrete}
 use native.Mathlib.Omega.{arith}
 use Rattle.graph.specs.Network.{Network, WellFormed, link, reverse, tail, head}
-use Rattle.graph.specs.Path.{Chain, stop, Path, Over, none, BestPath, All, But}
+use Rattle.graph.specs.Path.{Chain, stop, Over, none, All, But}
 use Rattle.graph.specs.Entries.{Hop, here, onward, nowhere, Entry, at-destination, starts, lacks, KeyLink, Free, RoutingEntry}
-use Rattle.graph.specs.Entries.{ForwardingEntry, BackwardingEntry}
+use Rattle.graph.specs.Entries.{NearestKeyLink, ForwardingEntry, BackwardingEntry}
 use Rattle.graph.proofs.Interfaces.{link-reverse}
-use Rattle.graph.proofs.Chain.{Best, cost, back, link-cost-positive, cost-append, best-from, best-after, best-fewer, over-weaken}
+use Rattle.graph.proofs.Chain.{Best, cost, back, link-cost-positive, cost-append, chain-nil, best-from, best-after, best-fewer}
+use Rattle.graph.proofs.Chain.{over-weaken}
 use Rattle.graph.proofs.Unique.{unique}
 use Rattle.graph.proofs.Simple.{simple, get}
 use Rattle.graph.proofs.Agreement.{path-best, best-path}
-use Rattle.graph.proofs.Keys.{Key, Detour, over-at, over-all, over-by-places, key-on, key-towards, but?, key-link, detour-key}
+use Rattle.graph.proofs.Keys.{Key, over-at, over-all, over-by-places, key-on, key-towards, but?, key-link, detour-key}
 use Rattle.graph.proofs.Keys.{link-key, free-best, key-at, all-path, keys?}
 
 -- the entry that a best path gives
 abbrev pub hopOf : List ℕ → Hop
 hopOf [] = here
 hopOf (f ∷ p) = onward f
-
--- The key link of interface h nearest d: the last on the best path from the head.
-pub record NearestKeyLink (N : Network) (d h k : ℕ) : Type 0 where
-  pub key : KeyLink N d h k
-  pub before : List ℕ
-  pub crossing : ℕ
-  pub is : link crossing ≡ k
-  pub after : List ℕ
-  pub routing : BestPath N All (head N h) (before ++ crossing ∷ after) d
-  pub last : Over (Free N d h) after
-
-pub chain-nil : {N : Network} {i d : ℕ} → Chain N i [] d → i ≡ d
-chain-nil (stop e) = e
 
 module _ (N : Network) (W : WellFormed N) where
   module _ {X : ℕ → Type 0} {i d : ℕ} where
@@ -57,7 +45,7 @@ module _ (N : Network) (W : WellFormed N) where
     entry-one (lacks n c) (lacks m c₂) = refl
 
     pub best-entry : (p : List ℕ) → Best N X i p d → Entry N X i d (hopOf p)
-    best-entry [] t = at-destination (chain-nil (t .chain))
+    best-entry [] t = at-destination (chain-nil N (t .chain))
     best-entry (f ∷ p) t = starts (apart t) (best-path N W t)
 
     -- no chain of links left in: no entry, except at the destination itself
@@ -105,7 +93,7 @@ module _ (N : Network) (W : WellFormed N) where
           (same-links-entry (λ k o. free k) (λ k o. tt), same-links-entry (λ k o. tt) (λ k o. free k))
 
       -- the nearest key link and the detour that it gives
-      nearest-detour : {k : ℕ} → NearestKeyLink N d h k → (S : List ℕ) × Best N (Free N d h) (head N h) S d × Best N (But k) (head N h) S d
+      pub nearest-detour : {k : ℕ} → NearestKeyLink N d h k → (S : List ℕ) × Best N (Free N d h) (head N h) S d × Best N (But k) (head N h) S d
       nearest-detour {k} n = by-place (n .before) (path-best N W (n .routing))
         where
           c : ℕ

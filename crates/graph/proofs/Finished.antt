@@ -15,7 +15,7 @@ use Rattle.graph.specs.Path.{Chain, stop, step, Over, Distinct, both, Al
 use Rattle.graph.specs.Entries.{KeyLink}
 use Rattle.graph.proofs.Interfaces.{tail-reverse, head-reverse, same-link}
 use Rattle.graph.proofs.Chain.{linkCost, cost, Best, On, find, link-cost-positive, best-from, best-after, best-fewer}
-use Rattle.graph.proofs.Chain.{first-present, first-tail, first-over}
+use Rattle.graph.proofs.Chain.{chain-nil, first-present, first-tail, first-over}
 use Rattle.graph.proofs.Unique.{unique}
 use Rattle.graph.proofs.Agreement.{path-best, best-path}
 use Rattle.graph.proofs.Rounds.{Column, AtMost, Falls, Offer, Rests, ended, rest, Sound, Complete, Finished}
@@ -80,8 +80,8 @@ pub record Blanked (N : Network) (X : ℕ → Type 0) (d k : ℕ) (D D′ : Colu
 
 module _ (N : Network) (X : ℕ → Type 0) (d : ℕ) (D : Column) (t : Finished N X d D) where
   -- a chain that costs no more than the entry is a best one
-  entry-best : {i c : ℕ} (p : List ℕ) → D i ≡ some c → Chain N i p d → Over X p → cost N p ≤ c → Best N X i p d
-  entry-best {i} {c} p e s o h =
+  as-cheap-best : {i c : ℕ} (p : List ℕ) → D i ≡ some c → Chain N i p d → Over X p → cost N p ≤ c → Best N X i p d
+  as-cheap-best {i} {c} p e s o h =
       record {
         chain = s;
         over = o;
@@ -95,7 +95,7 @@ module _ (N : Network) (X : ℕ → Type 0) (d : ℕ) (D : Column) (t : Finished
   finished-best i c e =
       let k = t .sound i c e in
       record
-      { way = k .way; best = entry-best (k .way) e (k .chain) (k .over) (omega (arith, k .costs)); costs = k .costs; once = k .once }
+      { way = k .way; best = as-cheap-best (k .way) e (k .chain) (k .over) (omega (arith, k .costs)); costs = k .costs; once = k .once }
 
   pub finished-none : (i : ℕ) → D i ≡ none → (p : List ℕ) → Chain N i p d → Over X p → ⊥
   finished-none i e p c o = no-entry e (t .least i p c o .is)
@@ -115,7 +115,7 @@ module _ (N : Network) (X : ℕ → Type 0) (d : ℕ) (D : Column) (t : Finished
   toward-best i c g e s =
       let k = t .sound (head N g) (s .at-head .value) (s .at-head .is) in (
         k .way,
-        entry-best (g ∷ k .way) e (step (s .present) (s .at-tail) (k .chain)) (both (s .within) (k .over))
+        as-cheap-best (g ∷ k .way) e (step (s .present) (s .at-tail) (k .chain)) (both (s .within) (k .over))
             (omega (arith, k .costs, s .sum, s .at-head .at-most)),
       )
 
@@ -305,10 +305,7 @@ module _ (N : Network) (X : ℕ → Type 0) (d : ℕ) where
           record { value = cost N p; is = blanked .kept i p b o ∙ finished-cost N X d D t b; at-most = omega arith }
 
       restart-rests : {i : ℕ} (p : List ℕ) → Best N X i p d → Over (But k) p → Rests N d D′ p
-      restart-rests {i} [] b o = ended (at (b .chain))
-        where
-          at : Chain N i [] d → AtMost (D′ d) 0
-          at (stop e) = rw e at (restart-at i [] b o)
+      restart-rests {i} [] b o = ended (rw (chain-nil N (b .chain)) at (restart-at i [] b o))
       restart-rests (f ∷ p) b (both h o) =
           rest (restart-at (tail N f) (f ∷ p) (best-from N [] f p b) (both h o)) (restart-rests p (best-after N [] f p b) o)
 

@@ -12,3 +12,7 @@ pub mod Keys
 pub mod Entries
 pub mod Walk
 pub mod Demand3
+pub mod Arrival
+pub mod Sets
+pub mod Without
+pub mod Dearest

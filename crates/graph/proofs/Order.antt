@@ -9,9 +9,9 @@ use Prim.Native.Nat.{ℕ, _+_, _*_, _^_, _<_}
 use native.Mathlib.Nat.{add-mul, lt-irrefl, lt-trans}
 use native.Mathlib.Decide.{ℕ-discrete, decLt}
 use native.Mathlib.Omega.{arith}
-use Rattle.graph.specs.Network.{Network, WellFormed, link, tail, head}
-use Rattle.graph.specs.Set.{sum, pow, linkSet}
-use Rattle.graph.specs.Path.{Chain, stop, step, Path, visits, weightSum, Lies, here, later, Lacks, Better}
+use Rattle.graph.specs.Network.{Network, WellFormed, link, tail}
+use Rattle.graph.specs.Set.{linkSet}
+use Rattle.graph.specs.Path.{Chain, stop, step, Path, visits, weightSum, Lies, here, later, Lacks, Better, StrictTotalOrder}
 use Rattle.graph.specs.Path.{Each, none, both, Distinct, fresh, But, Over, Over.none as over-none, Over.both as over-both}
 use Rattle.graph.proofs.Interfaces.{same-link, tail-reverse}
 use Rattle.graph.proofs.Chain.{cost}
@@ -135,12 +135,6 @@ module _ (N : Network) where
   -- two paths from one node with the same links are the same
   pub same-links : {i d e : ℕ} {p q : List ℕ} → Path N i p d → Path N i q e → ((k : ℕ) → Lies k p ↔ Lies k q) → p ≡ q
   same-links {p = p} {q = q} s t same = same-chain p q (s .chain) (s .once) (t .chain) (t .once) same
-
--- "the better lacks the highest-numbered link that lies on only one of them": a strict total order on the paths between two nodes
-pub record StrictTotalOrder (N : Network) (i d : ℕ) : Type 0 where
-  pub irreflexive : (p : List ℕ) → Path N i p d → Better N p p → ⊥
-  pub transitive : (p q r : List ℕ) → Path N i p d → Path N i q d → Path N i r d → Better N p q → Better N q r → Better N p r
-  pub comparable : (p q : List ℕ) → Path N i p d → Path N i q d → (p ≡ q) ⊎ (Better N p q ⊎ Better N q p)
 
 module _ (N : Network) (W : WellFormed N) where
   pub chain-numbered : {i d : ℕ} {p : List ℕ} → Chain N i p d → Each (λ k. k < N .links) (map link p)

@@ -14,10 +14,11 @@ use native.Mathlib.Decide.{ℕ-discrete, decLt}
 use native.Mathlib.Omega.{arith}
 use lib.ListN.{length}
 use Rattle.graph.specs.Network.{Network, WellFormed, link, reverse, tail, head}
-use Rattle.graph.specs.Path.{Chain, stop, step, Over, Each, Distinct, fresh, both, But}
+use Rattle.graph.specs.Path.{Chain, stop, step, Over, Distinct, fresh, both, But}
 use Rattle.graph.proofs.Interfaces.{head-reverse, same-link, tail-node}
-use Rattle.graph.proofs.Chain.{linkCost, cost, find, cost-append, chain-from, chain-after}
+use Rattle.graph.proofs.Chain.{linkCost, cost, On, find, cost-append, chain-from, chain-after}
 use Rattle.graph.proofs.Simple.{Cut, cut, short}
+use Rattle.graph.proofs.Order.{over-out}
 
 -- an entry by node: the cost of a chain from there, if one is known
 abbrev pub Column : Type 0
@@ -206,26 +207,16 @@ module _ (N : Network) (X : ℕ → Type 0) where
     rest-first (step up e c) (rest r s) = rw e at r
 
     once-more : {p : List ℕ} (f : ℕ) → Over (But (link f)) p → Distinct (map link p) → Distinct (map link (f ∷ p))
-    once-more f o t = fresh (apart o) t
-      where
-        apart : {k : ℕ} {p : List ℕ} → Over (But k) p → Each (λ y. k ≢ y) (map link p)
-        apart Over.none = Each.none
-        apart (both h o) = both (λ e. h (sym e)) (apart o)
+    once-more f o t = fresh (over-out o) t
 
-    -- An offer that wins is over a link that the head's chain does not have: it would come back to the tail, where the rest of that
-    -- chain is known already.
-    pub offer-new-link : {D : Column} {c : ℕ} (f : ℕ) (k : Known N X d D (head N f) c)
-        → ((e : ℕ) → D (tail N f) ≡ some e → linkCost N (link f) + c < e) → Over (But (link f)) (k .way)
-    offer-new-link {D} {c} f k better =
-        elim (find (link f) (k .way)) [
-          | inl o ↦ o
-          | inr o ↦ absurd (back (o .before) (o .crossing) (o .after) (o .split) (same-link (o .crossing) f (o .is)))
-        ]
+    -- Where the chain behind the head's entry has the link of f already, it comes back to the tail, which is known as cheaply.
+    pub known-comes-back : {D : Column} {c : ℕ} (f : ℕ) (k : Known N X d D (head N f) c) → On (link f) (k .way) → AtMost (D (tail N f)) c
+    known-comes-back {D} {c} f k o = back (o .before) (o .crossing) (o .after) (o .split) (same-link (o .crossing) f (o .is))
       where
-        dear : (m : ℕ) → AtMost (D (tail N f)) m → m ≤ c → ⊥
-        dear m t h = omega (arith, better (t .value) (t .is))
+        within : (m : ℕ) → AtMost (D (tail N f)) m → m ≤ c → AtMost (D (tail N f)) c
+        within m t h = record { value = t .value; is = t .is; at-most = omega arith }
 
-        back : (a : List ℕ) (g : ℕ) (b : List ℕ) → k .way ≡ a ++ g ∷ b → (g ≡ f) ⊎ (g ≡ reverse f) → ⊥
+        back : (a : List ℕ) (g : ℕ) (b : List ℕ) → k .way ≡ a ++ g ∷ b → (g ≡ f) ⊎ (g ≡ reverse f) → AtMost (D (tail N f)) c
         back a g b e s =
             let chain : Chain N (head N f) (a ++ g ∷ b) d = rw e at (k .chain) in
             let rests : Rests N d D (a ++ g ∷ b) = rw e at (k .rests) in
@@ -233,12 +224,21 @@ module _ (N : Network) (X : ℕ → Type 0) where
             elim s [
               | inl q ↦
                   let t : AtMost (D (tail N g)) (cost N (g ∷ b)) = rest-first (chain-from N a g b chain) (rests-after a (g ∷ b) rests) in
-                  dear (cost N (g ∷ b)) (rw (ap (tail N) q) at t) part
+                  within (cost N (g ∷ b)) (rw (ap (tail N) q) at t) part
               | inr q ↦
                   let t : AtMost (D (head N g)) (cost N b) =
                   rest-first (chain-after N a g b chain) (rests-after (g ∷ []) b (rests-after a (g ∷ b) rests)) in
-                  dear (cost N b) (rw (ap (head N) q ∙ head-reverse N f) at t) (omega arith)
+                  within (cost N b) (rw (ap (head N) q ∙ head-reverse N f) at t) (omega arith)
             ]
+
+    -- so an offer that wins is over a link that the head's chain does not have
+    pub offer-new-link : {D : Column} {c : ℕ} (f : ℕ) (k : Known N X d D (head N f) c)
+        → ((e : ℕ) → D (tail N f) ≡ some e → linkCost N (link f) + c < e) → Over (But (link f)) (k .way)
+    offer-new-link f k better =
+        elim (find (link f) (k .way)) [
+          | inl o ↦ o
+          | inr o ↦ let t = known-comes-back f k o in absurd (omega (arith, better (t .value) (t .is)))
+        ]
 
     -- an offer keeps the column sound; what it reads may be older than where it stores
     pub sound-offer : {E D D′ : Column} {f : ℕ} → Sound N X d E → Falls E D → Sound N X d D → Offer N X f E D D′ → Sound N X d D′

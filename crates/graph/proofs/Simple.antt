@@ -13,7 +13,7 @@ use lib.ListN.{length, length-map}
 use Rattle.graph.specs.Network.{Network, WellFormed, link, tail, head}
 use Rattle.graph.specs.Path.{Chain, stop, step, Path, visits, Over, none, both, Each, Each.none as each-none, Each.both as each-both}
 use Rattle.graph.specs.Path.{Distinct, Distinct.none as distinct-none, fresh}
-use Rattle.graph.proofs.Interfaces.{same-link, tail-reverse, tail-node, head-node}
+use Rattle.graph.proofs.Interfaces.{same-link, tail-reverse, interface-below, tail-node, head-node}
 use Rattle.graph.proofs.Chain.{Best, cost, link-cost-positive, best-after}
 use Rattle.graph.proofs.Sum.{In, first, further, in?, pigeonhole}
 
@@ -96,7 +96,6 @@ module _ (N : Network) (W : WellFormed N) where
   links-distinct (step {f = f} {p = p} u e c) (fresh (each-both n o) (fresh m t)) =
       fresh (links-apart f p (rw e o) m) (links-distinct c (fresh m t))
 
-  -- for a best chain by `simple`
   pub distinct-links : {i d : ℕ} {p : List ℕ} → Path N i p d → Distinct (map link p)
   distinct-links t = links-distinct (t .chain) (t .once)
 
@@ -187,11 +186,10 @@ module _ (N : Network) (W : WellFormed N) {X : ℕ → Type 0} (left-in? : (k : 
   -- such a chain is empty or starts with a numbered interface
   start : {i r : ℕ} {p : List ℕ} → Chain N i p d → Over X p → length p ≤ suc r
       → Within i 0 p ⊎ ((f : ℕ) × (f < 2 * N .links) × Via i r f p)
-  unfolding link
   start (stop e) none h = inl (record { chain = stop e; over = none; most = omega arith })
   start (step {f = f} {p = p} u e c) (both x o) h = inr (
     f,
-    omega (arith, W .numbered (link f) u),
+    interface-below f (N .links) (W .numbered (link f) u),
     record {
       rest = p;
       split = refl;

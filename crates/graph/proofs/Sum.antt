@@ -139,9 +139,12 @@ each-in : {P : ℕ → Type 0} {x : ℕ} {l : List ℕ} → In x l → Each P l 
 each-in (first e) (both p t) = rw e p
 each-in (further i) (both p t) = each-in i t
 
+pub each-map : {P Q : ℕ → Type 0} {l : List ℕ} → ((x : ℕ) → P x → Q x) → Each P l → Each Q l
+each-map f none = none
+each-map f (both p t) = both (f _ p) (each-map f t)
+
 each-below : {m n : ℕ} {l : List ℕ} → m ≤ n → Each (λ x. x < m) l → Each (λ x. x < n) l
-each-below h none = none
-each-below h (both p t) = both (lt-of-lt-of-le p h) (each-below h t)
+each-below h = each-map (λ x p. lt-of-lt-of-le p h)
 
 -- any list has a bound; it can lie above k too
 bounded : (k : ℕ) (l : List ℕ) → (m : ℕ) × (k < m) × Each (λ x. x < m) l

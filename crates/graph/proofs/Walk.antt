@@ -1,6 +1,7 @@
--- The walk over right entries. Without a failed link before it, it follows the best path, since an interface of a best path has no
--- key links (W1). Where it meets the failed link it turns to the backwarding entry, and from there goes on along one path that
--- avoids the failed link: either the plain best path of the next node (W3), or the detour of the interface that it crosses (W4).
+-- The walk over right entries. It follows the best path as long as it meets no failed link, since an interface of a best path has no
+-- key links (W1). Where it meets the failed link it turns to the backwarding entry. If that leads nowhere, the packet is dropped, and
+-- no chain goes on from there without the link (W2). Else the packet goes on along one path that avoids the failed link: the plain
+-- best path of the next node (W3), or the detour of the interface that it crosses (W4).
 use mathlib.Core.Path.{_≡_, refl, sym, ap, _∙_}
 use mathlib.Core.Logic.{_⊎_, inl, inr, _≢_}
 use mathlib.Core.Bool.{Bool, true, false}
@@ -12,36 +13,41 @@ use borrow.Author.Tests.{eq-eqb, ne-eqb}
 use Rattle.graph.specs.Network.{Network, WellFormed, link, reverse, tail, head}
 use Rattle.graph.specs.Path.{Chain, Path, Over, both, All, But}
 use Rattle.graph.specs.Path.{Each, Each.none as each-none, Each.both as each-both}
-use Rattle.graph.specs.Entries.{Hop, onward, nowhere, Entry, Free, RoutingEntry, ForwardingEntry}
+use Rattle.graph.specs.Entries.{Hop, onward, nowhere, Entry, Free}
 use Rattle.graph.specs.Walk.{Tables, around, stepBy, Ending, delivered, unrouted, dropped, exhausted, astray, endsBy, crossing}
 use Rattle.graph.specs.Walk.{walkFrom}
+use Rattle.graph.specs.Demand3.{BuiltEntries, RightEntries, LeavesIn, Works}
 use Rattle.graph.proofs.Interfaces.{link-reverse, head-reverse}
-use Rattle.graph.proofs.Chain.{Best, back, first-present, first-tail, first-over, over-weaken, over-right, best-from}
+use Rattle.graph.proofs.Chain.{Best, back, chain-nil, first-present, first-tail, first-over, over-weaken, over-right, best-from}
 use Rattle.graph.proofs.Chain.{best-after, best-fewer, twice, over-after}
 use Rattle.graph.proofs.Unique.{unique}
 use Rattle.graph.proofs.Simple.{simple, get}
 use Rattle.graph.proofs.Keys.{Detour, over-all, but?, key-link, free-best, turn, along, no-key, routing-has-no-key, all-path, keys?}
-use Rattle.graph.proofs.Entries.{hopOf, chain-nil, apart, entry-one, entry-best, no-chain-entry}
-
--- The links left in for the backwarding entries: `Y h` for interface h. It leaves out the interface's own link; it may leave out
--- more, but nothing where the interface has no key links.
-pub record LeavesIn (N : Network) (d : ℕ) (Y : ℕ → ℕ → Type 0) : Type 0 where
-  pub without-own : (h k : ℕ) → Y h k → But (link h) k
-  pub all-others : (h : ℕ) → ((k : ℕ) → Free N d h k) → (k : ℕ) → But (link h) k → Y h k
+use Rattle.graph.proofs.Entries.{hopOf, apart, entry-one, entry-best, no-chain-entry}
+use Rattle.graph.proofs.Entries.{routing-entry, forwarding-entry, backwarding-entry}
 
 -- document 01's rule: the interface's own link alone
 pub own-link-out : (N : Network) (d : ℕ) → LeavesIn N d (λ h. But (link h))
 own-link-out N d = record { without-own = λ h k o. o; all-others = λ h free k o. o }
 
--- the entries for destination d are what the three definitions say
-pub record RightEntries (N : Network) (d : ℕ) (Y : ℕ → ℕ → Type 0) (T : Tables) : Type 0 where
-  pub routing : (i : ℕ) → i < N .nodes → RoutingEntry N d i (T .routing i)
-  pub forwarding : (h : ℕ) → N .Present (link h) → ForwardingEntry N d h (T .forwarding h)
-  pub backwarding : (h : ℕ) → N .Present (link h) → Entry N (Y h) (tail N h) d (T .backwarding h)
+-- the built tables are right by that rule
+pub built-right : {N : Network} {d : ℕ} {T : Tables} → BuiltEntries N d T → RightEntries N d (λ h. But (link h)) T
+built-right built = record { routing = built .routing; forwarding = built .forwarding; backwarding = built .backwarding }
 
--- the link has not failed
-abbrev pub Works : (ℕ → Bool) → ℕ → Type 0
-Works failed k = failed k ≡ false
+-- and there are such tables for every destination
+pub tables-exist : (N : Network) → WellFormed N → (d : ℕ) → (T : Tables) × BuiltEntries N d T
+tables-exist N W d = (
+  record {
+    routing = λ i. routing-entry N W d i .0;
+    forwarding = λ h. forwarding-entry N W d h .0;
+    backwarding = λ h. backwarding-entry N W d h .0;
+  },
+  record {
+    routing = λ i node. routing-entry N W d i .1;
+    forwarding = λ h up. forwarding-entry N W d h .1;
+    backwarding = λ h up. backwarding-entry N W d h .1;
+  },
+)
 
 -- Interface x is not the routing entry of its tail, or the best path from its head avoids link l. The interfaces that the walk
 -- crosses before it meets the failed link l are of the other kind, and those after are of this: so none is crossed twice.
@@ -90,7 +96,7 @@ lost-walk N failed T zero lost n room = absurd (omega arith)
 lost-walk N failed T {i} {d} (suc limit) lost n room = rw (ne-eqb i d n, walkFrom)
 
 -- the walk from the failed link on
-pub record Round (N : Network) (failed : ℕ → Bool) (T : Tables) (d f : ℕ) (way : List ℕ) : Type 0 where
+pub record WayRound (N : Network) (failed : ℕ → Bool) (T : Tables) (d f : ℕ) (way : List ℕ) : Type 0 where
   pub goes : Goes N failed T d (tail N f) (onward f) way delivered
   pub path : Path N (tail N f) way d
   pub avoids : Over (But (link f)) way
@@ -108,7 +114,7 @@ module _ (N : Network) (W : WellFormed N) (d : ℕ) (Y : ℕ → ℕ → Type 0)
 
   -- W1: where every link works, the walk follows the best path
   pub follows : {i : ℕ} (p : List ℕ) → Best N All i p d → Over (Works failed) p → Goes N failed T d i (hopOf p) p delivered
-  follows [] t o = arrives (chain-nil (t .chain))
+  follows [] t o = arrives (chain-nil N (t .chain))
   follows (f ∷ p) t (both works o) =
       let rest = best-after N [] f p t in
       goes-on (apart N W t) works
@@ -146,7 +152,7 @@ module _ (N : Network) (W : WellFormed N) (d : ℕ) (Y : ℕ → ℕ → Type 0)
     -- W4: a packet on a detour goes along it
     detours : {h : ℕ} (S : List ℕ) → Detour N d h S → Over (But l) S
         → Goes N failed T d (head N h) (hopOf S) S delivered × Each (Strays N d l) S
-    detours {h} [] D o = (arrives (chain-nil (best-after N (back (D .between)) h [] (D .round) .chain)), each-none)
+    detours {h} [] D o = (arrives (chain-nil N (best-after N (back (D .between)) h [] (D .round) .chain)), each-none)
     detours {h} (e ∷ S) D (both n o) =
         let t = best-after N (back (D .between)) h (e ∷ S) (D .round) in
         let up = first-present N (t .chain) in
@@ -183,11 +189,11 @@ module _ (N : Network) (W : WellFormed N) (d : ℕ) (Y : ℕ → ℕ → Type 0)
           rw (link-reverse x ∙ ap link first) at (over-right N (g ∷ []) S (over-after N W (back A) (reverse x) (g ∷ S) round₂))
 
   -- W2, W3, W4: at the failed link the walk is dropped, and nothing joins that node to d without the link; or it goes round
-  pub rounds : {f : ℕ} {b : List ℕ} → failed (link f) ≡ true → ((k : ℕ) → But (link f) k → failed k ≡ false)
+  pub at-failed-link : {f : ℕ} {b : List ℕ} → failed (link f) ≡ true → ((k : ℕ) → But (link f) k → failed k ≡ false)
       → Best N All (tail N f) (f ∷ b) d
-      → ((way : List ℕ) × Round N failed T d f way)
+      → ((way : List ℕ) × WayRound N failed T d f way)
       ⊎ (Goes N failed T d (tail N f) (onward f) [] dropped × ((p : List ℕ) → Chain N (tail N f) p d → Over (But (link f)) p → ⊥))
-  rounds {f} {b} down only plain =
+  at-failed-link {f} {b} down only plain =
       elim (get N W (but? (link f)) (tail N f) d) [ inl (Q, t) ↦ inl (by-way Q t) | inr no-chain ↦ inr (by-nothing no-chain) ]
     where
       free : (k : ℕ) → Free N d f k
@@ -212,7 +218,7 @@ module _ (N : Network) (W : WellFormed N) (d : ℕ) (Y : ℕ → ℕ → Type 0)
 
       -- W3: the plain best path from the next node
       plainly : (g : ℕ) (Q : List ℕ) → Best N (But (link f)) (tail N f) (g ∷ Q) d → T .backwarding f ≡ onward g
-          → Best N All (head N g) Q d → (way : List ℕ) × Round N failed T d f way
+          → Best N All (head N g) Q d → (way : List ℕ) × WayRound N failed T d f way
       plainly g Q t back-entry m =
           let n : But (link f) (link g) = first-over N (t .over) in
           let o : Over (But (link f)) Q = over-right N (g ∷ []) Q (t .over) in (
@@ -228,7 +234,7 @@ module _ (N : Network) (W : WellFormed N) (d : ℕ) (Y : ℕ → ℕ → Type 0)
 
       -- W4: the detour of the interface crossed
       by-detour : (g : ℕ) (Q M : List ℕ) → Best N (But (link f)) (tail N f) (g ∷ Q) d → T .backwarding f ≡ onward g
-          → Best N All (head N g) (reverse g ∷ M) d → (way : List ℕ) × Round N failed T d f way
+          → Best N All (head N g) (reverse g ∷ M) d → (way : List ℕ) × WayRound N failed T d f way
       by-detour g Q M t back-entry m =
           let n : But (link f) (link g) = first-over N (t .over) in
           let start : tail N g ≡ tail N f = first-tail N (t .chain) in
@@ -251,8 +257,8 @@ module _ (N : Network) (W : WellFormed N) (d : ℕ) (Y : ℕ → ℕ → Type 0)
                 )
           ]
 
-      by-way : (Q : List ℕ) → Best N (But (link f)) (tail N f) Q d → (way : List ℕ) × Round N failed T d f way
-      by-way [] t = absurd (apart N W plain (chain-nil (t .chain)))
+      by-way : (Q : List ℕ) → Best N (But (link f)) (tail N f) Q d → (way : List ℕ) × WayRound N failed T d f way
+      by-way [] t = absurd (apart N W plain (chain-nil N (t .chain)))
       by-way (g ∷ Q) t =
           let t₂ : Best N (Y f) (tail N f) (g ∷ Q) d =
           best-fewer N (leaves .without-own f) (over-weaken N (leaves .all-others f free) (t .over)) t in

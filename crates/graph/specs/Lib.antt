@@ -3,3 +3,4 @@ pub mod Path
 pub mod Entries
 pub mod Walk
 pub mod Set
+pub mod Demand3

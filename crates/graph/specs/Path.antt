@@ -50,6 +50,12 @@ pub record Lacks (p q : List ℕ) : Type 0 where
 abbrev pub Better : Network → List ℕ → List ℕ → Type 0
 Better N p q = (weightSum N p < weightSum N q) ⊎ ((weightSum N p ≡ weightSum N q) × Lacks p q)
 
+-- That the rule always decides: a strict total order on the paths between two nodes. It is proved of every well-formed network.
+pub record StrictTotalOrder (N : Network) (i d : ℕ) : Type 0 where
+  pub irreflexive : (p : List ℕ) → Path N i p d → Better N p p → ⊥
+  pub transitive : (p q r : List ℕ) → Path N i p d → Path N i q d → Path N i r d → Better N p q → Better N q r → Better N p r
+  pub comparable : (p q : List ℕ) → Path N i p d → Path N i q d → (p ≡ q) ⊎ (Better N p q ⊎ Better N q p)
+
 -- Links left in when others are taken out: a property of link numbers. All of them; all but one.
 abbrev pub All : ℕ → Type 0
 All k = Unit {0}
