@@ -1,0 +1,53 @@
+-- Each public entry's contract determines its answer: two answers that it allows for the same inputs are equal. Each contract says what
+-- the answer is, or its one number, so this is one argument for all of them. No entry here changes what it is lent.
+use mathlib.Core.Path.{_≡_, sym, ap, _∙_}
+use Prim.Native.Nat.{ℕ}
+use Rattle.net.specs.declared.interface.Node.{Node}
+use Rattle.net.specs.declared.interface.Link.{Link}
+use Rattle.net.proofs.check.check_network.Reads as check-network-contract
+use Rattle.net.proofs.check.comes_after.Reads as comes-after-contract
+use Rattle.net.proofs.check.end_at.Reads as end-at-contract
+use Rattle.net.proofs.check.bad_weight.Reads as bad-weight-contract
+use Rattle.net.proofs.interface.link_of.Reads as link-of-contract
+use Rattle.net.proofs.interface.tail_of.Reads as tail-of-contract
+use Rattle.net.proofs.interface.head_of.Reads as head-of-contract
+
+-- A contract is read as what it tells a caller (`Learnt`, from the source's `ensures`) of the inputs, the answer and the lent values
+-- at exit, under any lifetimes.
+abbrev pub Determined {ℓ ℓ′ κ κ′} : {Lifetimes : Type ℓ} {Inputs : Lifetimes → Type ℓ′} {Answer : Lifetimes → Type κ}
+    {Exit : Lifetimes → Type κ′}
+    → ((a : Lifetimes) → Inputs a → Answer a → Exit a → Type 0) → Type (ℓ ⊔ ℓ′ ⊔ κ ⊔ κ′)
+Determined {Lifetimes} {Inputs} {Answer} {Exit} Allows =
+    (a : Lifetimes) (inputs : Inputs a) (x y : Answer a) (e f : Exit a) → Allows a inputs x e → Allows a inputs y f → x ≡ y
+
+-- two that are one third are one
+pub agree {ℓ} : {A : Type ℓ} {x y z : A} → x ≡ z → y ≡ z → x ≡ y
+agree p q = p ∙ sym q
+
+pub check-network : Determined check-network-contract.Learnt
+check-network a inputs x y e f p q = agree p q
+
+pub comes-after : Determined comes-after-contract.Learnt
+comes-after a inputs x y e f p q = agree p q
+
+pub end-at : Determined end-at-contract.Learnt
+end-at a inputs x y e f p q = agree p q
+
+pub bad-weight : Determined bad-weight-contract.Learnt
+bad-weight a inputs x y e f p q = agree p q
+
+-- a link and a node are their number
+abbrev link-numbered : ℕ → Link
+link-numbered k = record { 0 = k }
+
+abbrev node-numbered : ℕ → Node
+node-numbered i = record { 0 = i }
+
+pub link-of : Determined link-of-contract.Learnt
+link-of a inputs x y e f p q = ap link-numbered (agree p q)
+
+pub tail-of : Determined tail-of-contract.Learnt
+tail-of a inputs x y e f p q = ap node-numbered (agree p q)
+
+pub head-of : Determined head-of-contract.Learnt
+head-of a inputs x y e f p q = ap node-numbered (agree p q)

@@ -1,0 +1,6 @@
+pub mod Rows
+pub mod Faults
+pub mod Stages
+pub mod Accepted
+pub mod Refused
+pub mod Determined

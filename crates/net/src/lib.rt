@@ -1,0 +1,28 @@
+// The network in memory: the three kinds of number, the failure, the limits, the refusal numbers, and the check that every entry
+// on a network makes first. A network in memory is its node count and three lent rows: low ends, high ends, weights.
+mod check;
+pub mod entry;
+mod interface;
+pub mod limit;
+pub mod refusal;
+
+pub use check::Verdict;
+pub use check::check_network;
+pub use check::comes_after;
+pub use check::end_at;
+pub use interface::Failure;
+pub use interface::Interface;
+pub use interface::Link;
+pub use interface::Node;
+pub use interface::head_of;
+pub use interface::link_of;
+pub use interface::tail_of;
+
+// The network that a reader's answer holds: the rows' places past the last link are 0.
+pub struct Network {
+    pub nodes: usize,
+    pub links: usize,
+    pub low: [u8; 64],
+    pub high: [u8; 64],
+    pub weight: [u32; 64],
+}
