@@ -1,0 +1,13 @@
+pub mod Stored
+pub mod Reached
+pub mod Passing
+pub mod Faults
+pub mod RoundTrip
+pub mod First323
+pub mod Groups
+pub mod Readings
+pub mod Overwrite
+pub mod Lengths
+pub mod Storing
+pub mod Answers
+pub mod Determined

@@ -1,0 +1,109 @@
+-- `read_links` meets `linksRead`: the loop's invariant is that the whole answer is the answer from link k on, with the rows as they
+-- are filled so far.
+use Prim.Native.Nat.{_-_, _≤_}
+use mathlib.Core.Path.{_≡_, sym, _∙_}
+use native.Mathlib.Nat.{sub-zero}
+use native.Mathlib.Omega.{arith}
+use borrow.Author.Needs.{needs}
+use lib.ListN.{replicate}
+use Rattle.net.specs.Limits.{mostLinks}
+use Rattle.plan.specs.Reader.{linksRead}
+use Rattle.plan.proofs.Readings.{bytes-left, all-read, link-refused, link-read}
+use Rattle.plan.proofs.reader.read_links.Statement.{statement}
+use Rattle.plan.proofs.reader.read_links.Tie as tie
+
+abbrev Inv-links : tie.InvT-links
+Inv-links s n m first low₀ high₀ weight₀ low-before₀ high-before₀ at₀ k₀ low high weight low-before high-before at k =
+    (k ≤ m)
+    × (linksRead m s n m first 0 0 0 (replicate mostLinks 0) (replicate mostLinks 0) (replicate mostLinks 0)
+    ≡ linksRead (m - k) s n m at low-before high-before k low high weight)
+
+abbrev μ-links : tie.MeasureT-links
+μ-links s n m first low₀ high₀ weight₀ low-before₀ high-before₀ at₀ k₀ low high weight low-before high-before at k =
+    m - k
+
+links-holds : tie.Need-links-holds Inv-links μ-links
+links-holds c = (search needs, simp sub-zero)
+
+refused-requires : tie.Need-refused-requires Inv-links μ-links
+refused-requires c κs = search needs
+
+read-link-requires : tie.Need-read-link-requires Inv-links μ-links
+read-link-requires c κs = search needs
+
+enum-known-number : tie.Need-enum-known-number Inv-links μ-links
+enum-known-number c = search needs
+
+refused-requires-2 : tie.Need-refused-requires-2 Inv-links μ-links
+refused-requires-2 c κs = search needs
+
+enum-known-l : tie.Need-enum-known-l Inv-links μ-links
+enum-known-l c = search needs
+
+array-write-low : tie.Need-array-write-low Inv-links μ-links
+array-write-low c = search needs
+
+array-write-high : tie.Need-array-write-high Inv-links μ-links
+array-write-high c = search needs
+
+mul-weight : tie.Need-mul-weight Inv-links μ-links
+mul-weight c = search needs
+
+array-write-weight : tie.Need-array-write-weight Inv-links μ-links
+array-write-weight c = search needs
+
+cast-low-before : tie.Need-cast-low-before Inv-links μ-links
+cast-low-before c = search needs
+
+cast-high-before : tie.Need-cast-high-before Inv-links μ-links
+cast-high-before c = search needs
+
+add-k : tie.Need-add-k Inv-links μ-links
+add-k c = search needs
+
+links-less : tie.Need-links-less Inv-links μ-links
+links-less c = omega (arith, c .before .before .before .before .if1 .left)
+
+links-again : tie.Need-links-again Inv-links μ-links
+links-again c =
+    let l = c .before .before .before .before .before .links in (
+      omega (arith, c .before .before .before .before .if1 .left),
+      l .inv .1 ∙ link-read _ _ _ _ _ _ _ _ _ _ (omega (arith, c .before .before .before .before .if1 .left)) (c .before .before .before .read-link .ensures) _ _ _ _ (c .before .l .given .1),
+    )
+
+returns : tie.Need-returns Inv-links μ-links
+returns c = c .refused .ensures ∙ sym (c .before .before .before .links .inv .1 ∙ bytes-left _ _ _ _ _ _ _ _ _ _ (c .before .before .if1 .taken) (c .before .if2 .taken))
+
+returns-2 : tie.Need-returns-2 Inv-links μ-links
+returns-2 c = sym (c .before .before .links .inv .1 ∙ all-read _ _ _ _ _ _ _ _ _ _ (c .before .if1 .taken) (c .if2 .left))
+
+returns-3 : tie.Need-returns-3 Inv-links μ-links
+returns-3 c =
+    let l = c .before .before .before .before .before .before .links in
+    c .refused2 .ensures
+    ∙ sym (l .inv .1 ∙ link-refused _ _ _ _ _ _ _ _ _ _ (omega (arith, c .before .before .before .before .before .if1 .left)) (c .before .before .before .before .read-link .ensures) _ _ (c .before .before .number .given .1))
+
+pub read-links-spec : {M : Type 1} → statement M
+read-links-spec =
+    tie.close
+    (tie.spec
+    Inv-links
+    μ-links
+    links-holds
+    refused-requires
+    read-link-requires
+    enum-known-number
+    refused-requires-2
+    enum-known-l
+    array-write-low
+    array-write-high
+    mul-weight
+    array-write-weight
+    cast-low-before
+    cast-high-before
+    add-k
+    links-less
+    links-again
+    returns
+    returns-2
+    returns-3)

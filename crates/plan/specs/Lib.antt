@@ -1,0 +1,5 @@
+pub mod Number
+pub mod Plan
+pub mod Reader
+pub mod Writer
+pub mod Fault
