@@ -1,0 +1,169 @@
+//! Best paths, found in two ways that share nothing but the network: by
+//! trying every path, which is slow but says the rule word by word, and by
+//! Dijkstra's method. The self-test holds the one against the other.
+
+use crate::network::{Graph, Refusal};
+use crate::{network, tables};
+use std::collections::HashMap;
+
+/// The nodes of a path, first to last. At most one link joins a pair, so the
+/// nodes tell the links as well.
+pub type Chain = Vec<usize>;
+
+/// Finds, from one node, the best chain to each node, or none where there is
+/// no path. The links in the set `out` are taken out first.
+pub type Method = fn(graph: &Graph, out: u64, from: usize) -> Vec<Option<Chain>>;
+
+fn usable(graph: &Graph, out: u64, from: usize, to: usize) -> Option<usize> {
+    graph.link(from, to).filter(|link| out >> link & 1 == 0)
+}
+
+/// The links of a chain, which must be a path of this network.
+fn links_of(graph: &Graph, chain: &[usize]) -> Vec<usize> {
+    chain.windows(2).map(|hop| graph.link(hop[0], hop[1]).expect("a link")).collect()
+}
+
+pub fn sum_of(graph: &Graph, chain: &[usize]) -> u64 {
+    links_of(graph, chain).iter().map(|&link| u64::from(graph.links[link].weight)).sum()
+}
+
+fn set_of(graph: &Graph, chain: &[usize]) -> u64 {
+    links_of(graph, chain).iter().fold(0, |set, &link| set | 1 << link)
+}
+
+// ------------------------------------------------------------- by trial
+
+/// Every path from a node, the one of no links included. Each longer path is
+/// a shorter one with one node more, so the list grows until nothing can be
+/// put on. Meant for up to 8 nodes or so.
+pub fn every_chain(graph: &Graph, out: u64, from: usize) -> Vec<Chain> {
+    let mut all = vec![vec![from]];
+    let mut next = 0;
+    while next < all.len() {
+        let chain = all[next].clone();
+        let last = chain[chain.len() - 1];
+        for to in 0..graph.nodes {
+            if !chain.contains(&to) && usable(graph, out, last, to).is_some() {
+                all.push([&chain[..], &[to]].concat());
+            }
+        }
+        next += 1;
+    }
+    all
+}
+
+/// Document 01's rule as it is written: the smaller weight sum is better; of
+/// two paths of equal sum, the better lacks the highest-numbered link that
+/// lies on only one of them.
+fn is_better(graph: &Graph, one: &[usize], other: &[usize]) -> bool {
+    let (one_sum, other_sum) = (sum_of(graph, one), sum_of(graph, other));
+    if one_sum != other_sum {
+        return one_sum < other_sum;
+    }
+    let (one, other) = (links_of(graph, one), links_of(graph, other));
+    let on_only_one = |link: &usize| one.contains(link) != other.contains(link);
+    match (0..graph.links.len()).filter(on_only_one).max() {
+        Some(highest) => !one.contains(&highest),
+        None => false,
+    }
+}
+
+pub fn by_trial(graph: &Graph, out: u64, from: usize) -> Vec<Option<Chain>> {
+    let mut best: Vec<Option<Chain>> = vec![None; graph.nodes];
+    for chain in every_chain(graph, out, from) {
+        let known = &mut best[chain[chain.len() - 1]];
+        if known.as_ref().is_none_or(|known| is_better(graph, &chain, known)) {
+            *known = Some(chain);
+        }
+    }
+    best
+}
+
+// ------------------------------------------------------------ by a tree
+
+/// What one link adds to the cost of a path: its weight above 64 bits of
+/// which one, its own, is set. A path has no link twice, so those bits never
+/// carry and spell its set of links. Of two such sets the smaller number
+/// lacks the highest link in which they differ, which is the rule. The whole
+/// is a plain sum of positive parts, and that is all Dijkstra's method asks.
+fn toll(graph: &Graph, link: usize) -> u128 {
+    u128::from(graph.links[link].weight) << 64 | 1 << link
+}
+
+pub fn by_tree(graph: &Graph, out: u64, from: usize) -> Vec<Option<Chain>> {
+    // The least cost found so far, and the node before on that way.
+    let mut reached: Vec<Option<(u128, usize)>> = vec![None; graph.nodes];
+    let mut settled = vec![false; graph.nodes];
+    reached[from] = Some((0, from));
+    loop {
+        let open = (0..graph.nodes).filter(|&node| !settled[node]);
+        let nearest = open.filter_map(|node| reached[node].map(|(cost, _)| (cost, node))).min();
+        let Some((cost, node)) = nearest else {
+            break;
+        };
+        settled[node] = true;
+        for (to, way) in reached.iter_mut().enumerate() {
+            let Some(link) = usable(graph, out, node, to) else {
+                continue;
+            };
+            // A settled node is never changed: its cost is at most `cost`.
+            let longer = cost + toll(graph, link);
+            if way.is_none_or(|(known, _)| longer < known) {
+                *way = Some((longer, node));
+            }
+        }
+    }
+    let chain_to = |to: usize| {
+        let mut chain = vec![to];
+        let mut node = to;
+        while node != from {
+            node = reached[node]?.1;
+            chain.push(node);
+        }
+        chain.reverse();
+        Some(chain)
+    };
+    (0..graph.nodes).map(chain_to).collect()
+}
+
+// --------------------------------------------------------------- asking
+
+/// Answers questions for best paths of one network by one method, and keeps
+/// what it has found: tables and key links ask for the same ones many times.
+pub struct Best<'a> {
+    pub graph: &'a Graph,
+    method: Method,
+    found: HashMap<(u64, usize), Vec<Option<Chain>>>,
+}
+
+impl<'a> Best<'a> {
+    pub fn new(graph: &'a Graph, method: Method) -> Best<'a> {
+        Best { graph, method, found: HashMap::new() }
+    }
+
+    /// The best path without the links in `out`.
+    pub fn path(&mut self, out: u64, from: usize, to: usize) -> Option<&[usize]> {
+        let (graph, method) = (self.graph, self.method);
+        let all = self.found.entry((out, from)).or_insert_with(|| method(graph, out, from));
+        all[to].as_deref()
+    }
+}
+
+/// What is told of the best path between two nodes, all links present.
+pub struct Told {
+    pub sum: u64,
+    pub links: u64,
+    pub entry: u8,
+}
+
+/// Refusals: the network's, then 11 for the source and for the destination.
+pub fn told(network: &network::Network, source: u64, destination: u64) -> Result<Told, Refusal> {
+    let graph = network.graph()?;
+    let source = network::index(source, graph.nodes, 11)?;
+    let destination = network::index(destination, graph.nodes, 11)?;
+    let mut best = Best::new(&graph, by_tree);
+    let entry = tables::entry(&mut best, 0, source, destination);
+    // No path tells 0 and 0 like the path of no links; the entry differs.
+    let chain = best.path(0, source, destination).unwrap_or(&[]);
+    Ok(Told { sum: sum_of(&graph, chain), links: set_of(&graph, chain), entry })
+}

@@ -1,0 +1,424 @@
+//! Sub-command `selftest`: this program held against itself and against what
+//! document 01 says of it, before it is held against the proved program.
+//!
+//! Three parts: the bench sheet and the report that document 01 prints; the
+//! two ways to best paths against each other on small networks full of equal
+//! paths; demand 3 on networks of every size. Nothing is read, and every run
+//! does the same. It prints how often each thing was checked, and up to 20
+//! faults.
+
+use crate::network::{Graph, Network};
+use crate::paths::{by_tree, by_trial, every_chain, sum_of, Best, Method};
+use crate::tables::{self, Tables};
+use crate::walk::{self, Failure, Step, Walk};
+use crate::{plan, report};
+use std::collections::BTreeMap;
+
+const MOST_TOLD: usize = 20;
+const SMALL_NETWORKS: usize = 1500;
+const WALKED_NETWORKS: usize = 400;
+
+// -------------------------------------------------------------- counting
+
+#[derive(Default)]
+struct Tally {
+    /// In the order in which they were first counted.
+    counts: Vec<(&'static str, usize)>,
+    faults: Vec<String>,
+}
+
+impl Tally {
+    fn count(&mut self, what: &'static str) {
+        match self.counts.iter_mut().find(|(known, _)| *known == what) {
+            Some((_, count)) => *count += 1,
+            None => self.counts.push((what, 1)),
+        }
+    }
+
+    fn check(&mut self, what: &'static str, holds: bool, where_: impl FnOnce() -> String) {
+        self.count(what);
+        if !holds {
+            self.faults.push(format!("{what}: {}", where_()));
+        }
+    }
+}
+
+fn described(network: &Network) -> String {
+    let mut text = format!("{} nodes", network.nodes);
+    for k in 0..network.lows.len() {
+        text += &format!(" {}-{}:{}", network.lows[k], network.highs[k], network.weights[k]);
+    }
+    text
+}
+
+// ------------------------------------------------------ the bench sheet
+
+const PLAN_A: [u8; 17] = [4, 5, 0, 1, 1, 0, 2, 4, 0, 3, 9, 1, 1, 1, 2, 1, 1];
+
+const REPORT_A: &str = "\
+nodes 4 links 5
+none delivered 12 dropped 0 hops 20 longest 3
+0-1 delivered 12 dropped 0 hops 22 longest 4
+0-2 delivered 12 dropped 0 hops 20 longest 3
+0-3 delivered 12 dropped 0 hops 20 longest 3
+1-2 delivered 12 dropped 0 hops 22 longest 3
+2-3 delivered 12 dropped 0 hops 26 longest 5
+walks 72 delivered 72 dropped 0
+";
+
+/// A network given by a good stored plan, and its tables by one method.
+struct Built {
+    network: Network,
+    graph: Graph,
+    tables: Tables,
+    method: Method,
+}
+
+impl Built {
+    fn new(stored: &[u8], method: Method) -> Built {
+        let Ok(network) = plan::read(stored) else {
+            panic!("a plan of the bench sheet is refused");
+        };
+        let Ok(graph) = network.graph() else {
+            panic!("a network of the bench sheet is refused");
+        };
+        let tables = tables::build(&mut Best::new(&graph, method));
+        Built { network, graph, tables, method }
+    }
+
+    fn interface(&self, from: usize, to: usize) -> usize {
+        self.graph.interface(from, to).expect("neighbours")
+    }
+
+    fn routing(&self, i: usize, d: usize) -> u8 {
+        self.tables.routing[i * self.graph.nodes + d]
+    }
+
+    fn forwarding(&self, j: usize, i: usize, d: usize) -> u8 {
+        self.tables.forwarding[self.interface(j, i) * self.graph.nodes + d]
+    }
+
+    fn backwarding(&self, i: usize, j: usize, d: usize) -> u8 {
+        self.tables.backwarding[self.interface(i, j) * self.graph.nodes + d]
+    }
+
+    fn keys(&self, j: usize, i: usize, d: usize) -> u64 {
+        tables::key_links(&mut Best::new(&self.graph, self.method), self.interface(j, i), d)
+    }
+
+    /// Ending and trace, asked through the entry that checks everything.
+    fn walk(&self, source: u64, d: u64, failed: Option<(usize, usize)>, limit: u8) -> (u8, Vec<u8>) {
+        let failure = match failed {
+            Some((low, high)) => Failure::Link(self.graph.link(low, high).expect("a link") as u64),
+            None => Failure::None,
+        };
+        let mut trace = vec![0xEE; usize::from(limit) + 1];
+        let lent = self.tables.lent();
+        match walk::walk(&self.network, lent, source, d, failure, limit, &mut trace) {
+            Ok(walk) => (walk.ending, trace[..=walk.hops()].to_vec()),
+            Err(refusal) => panic!("a walk of the bench sheet: refusal {}", refusal.number),
+        }
+    }
+}
+
+/// What the reader says of some bytes: number and place, 0 and 0 if good.
+fn read(stored: &[u8]) -> (u8, usize) {
+    crate::network::shown(&plan::read(stored))
+}
+
+/// A plan of so many nodes and links, all of weight 1, in the right order.
+fn stored(nodes: u8, links: usize) -> Vec<u8> {
+    let mut bytes = vec![nodes, links as u8];
+    let pairs = (0..nodes).flat_map(|low| (low + 1..nodes).map(move |high| (low, high)));
+    for (low, high) in pairs.take(links) {
+        bytes.extend([low, high - low, 1]);
+    }
+    bytes
+}
+
+fn bench_sheet(tally: &mut Tally) {
+    let mut row = |name: &str, holds: bool| {
+        tally.check("rows of the bench sheet", holds, || name.to_string());
+    };
+    let ways: [(&str, Method); 2] = [("by trial", by_trial), ("by tree", by_tree)];
+    for (way, method) in ways {
+        let a = Built::new(&PLAN_A, method);
+        row(&format!("routing, {way}"), a.routing(0, 3) == 1);
+        row(&format!("key links, {way}"), a.keys(1, 0, 3) == 24);
+        row(&format!("forwarding 1 to 0, {way}"), a.forwarding(1, 0, 3) == 3);
+        row(&format!("forwarding 2 to 0, {way}"), a.forwarding(2, 0, 3) == 1);
+        row(&format!("backwarding 0 to 1, {way}"), a.backwarding(0, 1, 3) == 2);
+        row(&format!("backwarding 1 to 0, {way}"), a.backwarding(1, 0, 3) == 2);
+        row(&format!("1-2 failed, {way}"), a.walk(0, 3, Some((1, 2)), 64) == (0, vec![0, 1, 0, 3]));
+        let long = vec![0, 1, 2, 1, 0, 3];
+        row(&format!("2-3 failed, {way}"), a.walk(0, 3, Some((2, 3)), 64) == (0, long.clone()));
+        row(&format!("limit 4, {way}"), a.walk(0, 3, Some((2, 3)), 4) == (3, long[..5].to_vec()));
+        row(&format!("no way to go, {way}"), a.walk(2, 2, None, 0) == (0, vec![2]));
+
+        let square = Built::new(&[4, 4, 0, 1, 1, 0, 2, 1, 1, 2, 1, 2, 1, 1], method);
+        row(&format!("square, {way}"), square.routing(0, 3) == 1);
+        let pair = Built::new(&[2, 1, 0, 1, 1], method);
+        row(&format!("two nodes, {way}"), pair.walk(0, 1, Some((0, 1)), 64) == (2, vec![0]));
+    }
+
+    row("300", read(&[2, 1, 0, 1, 0xAC, 0x02]) == (0, 0));
+    row("65,535", read(&[2, 1, 0, 1, 0xFF, 0xFF, 0x03]) == (0, 0));
+    row("65,536", read(&[2, 1, 0, 1, 0x80, 0x80, 0x04]) == (6, 4));
+    row("80 00", read(&[2, 1, 0, 1, 0x80, 0x00]) == (2, 4));
+    row("01 00", read(&[1, 0]) == (0, 0));
+    row("00", read(&[0]) == (3, 0));
+    row("no bytes", read(&[]) == (1, 0));
+    row("32 nodes", read(&[32, 0]) == (0, 0));
+    row("33 nodes", read(&[33, 0]) == (3, 0));
+    row("64 links", read(&stored(32, 64)) == (0, 0));
+    row("65 links", read(&stored(32, 65)) == (4, 1));
+
+    row("report of plan A", report::text(&PLAN_A) == REPORT_A);
+    row("report of a refused plan", report::text(&[0]) == "refused 3 at 0\n");
+}
+
+// ------------------------------------------------------- random networks
+
+/// Xorshift with a multiplication; the seed must not be 0.
+struct Chance(u64);
+
+impl Chance {
+    /// From 0 to one below `end`.
+    fn below(&mut self, end: usize) -> usize {
+        self.0 ^= self.0 >> 12;
+        self.0 ^= self.0 << 25;
+        self.0 ^= self.0 >> 27;
+        let scattered = self.0.wrapping_mul(0x2545_F491_4F6C_DD1D);
+        ((scattered >> 33) % end as u64) as usize
+    }
+}
+
+/// A network of so many nodes and about so many links. Half of them start
+/// from a tree over all nodes; the others often fall apart. Small weights
+/// make equal paths.
+fn draw(chance: &mut Chance, nodes: usize, links: usize) -> Network {
+    let mut pairs: BTreeMap<(u8, u8), u32> = BTreeMap::new();
+    let most_weight = [1, 2, 3, 9, 65_535][chance.below(5)];
+    let mut join = |chance: &mut Chance, one: usize, other: usize| {
+        let pair = (one.min(other) as u8, one.max(other) as u8);
+        let weight = 1 + chance.below(most_weight) as u32;
+        if one != other && pairs.len() < 64 {
+            pairs.insert(pair, weight);
+        }
+    };
+    if chance.below(2) == 0 {
+        for node in 1..nodes {
+            let earlier = chance.below(node);
+            join(chance, earlier, node);
+        }
+    }
+    for _ in 0..links {
+        let (one, other) = (chance.below(nodes), chance.below(nodes));
+        join(chance, one, other);
+    }
+    Network {
+        nodes: nodes as u64,
+        lows: pairs.keys().map(|pair| pair.0).collect(),
+        highs: pairs.keys().map(|pair| pair.1).collect(),
+        weights: pairs.values().copied().collect(),
+    }
+}
+
+// ----------------------------------------------------- two ways to paths
+
+fn compare_ways(tally: &mut Tally, chance: &mut Chance, network: &Network) {
+    let Ok(graph) = network.graph() else {
+        return tally.check("networks drawn are good", false, || described(network));
+    };
+    tally.count("networks for both ways to best paths");
+    let links = graph.links.len();
+    let mut outs = vec![0];
+    outs.extend((0..links).map(|link| 1 << link));
+    for _ in 0..3 {
+        outs.push((0..links).filter(|_| chance.below(3) == 0).fold(0, |set, link| set | 1 << link));
+    }
+    for out in outs {
+        for from in 0..graph.nodes {
+            let (trial, tree) = (by_trial(&graph, out, from), by_tree(&graph, out, from));
+            let all = every_chain(&graph, out, from);
+            for to in 0..graph.nodes {
+                let place = || format!("{from} to {to} without {out:b}, {}", described(network));
+                tally.check("best paths equal both ways", trial[to] == tree[to], place);
+                let Some(best) = &tree[to] else {
+                    tally.count("  such paths, none there");
+                    continue;
+                };
+                let least = sum_of(&graph, best);
+                let ends_here = all.iter().filter(|chain| chain.last() == Some(&to));
+                if ends_here.filter(|chain| sum_of(&graph, chain) == least).count() > 1 {
+                    tally.count("  such paths, chosen among equal sums");
+                }
+                let back = by_tree(&graph, out, to)[from].clone();
+                let back = back.map(|chain| chain.into_iter().rev().collect::<Vec<_>>());
+                tally.check("best paths equal from either end", back.as_ref() == Some(best), place);
+            }
+        }
+    }
+    let (mut trial, mut tree) = (Best::new(&graph, by_trial), Best::new(&graph, by_tree));
+    for interface in 0..graph.interfaces() {
+        for d in 0..graph.nodes {
+            let one = tables::key_links(&mut trial, interface, d);
+            let other = tables::key_links(&mut tree, interface, d);
+            let place = || format!("interface {interface} for {d}, {}", described(network));
+            tally.check("key links equal both ways", one == other, place);
+            if one.count_ones() > 1 {
+                tally.count("  such sets of several key links");
+            } else if one != 0 {
+                tally.count("  such sets of one key link");
+            }
+        }
+    }
+    let same = tables::build(&mut trial) == tables::build(&mut tree);
+    tally.check("tables equal both ways", same, || described(network));
+}
+
+// ------------------------------------------------------------- demand 3
+
+/// A number for each node that two nodes share exactly if working links
+/// join them, however long the way. Knows nothing of paths or weights.
+fn parts(graph: &Graph, failed: Option<usize>) -> Vec<usize> {
+    let mut part: Vec<usize> = (0..graph.nodes).collect();
+    for (number, link) in graph.links.iter().enumerate() {
+        if failed != Some(number) {
+            let (kept, gone) = (part[link.low], part[link.high]);
+            for label in &mut part {
+                if *label == gone {
+                    *label = kept;
+                }
+            }
+        }
+    }
+    part
+}
+
+/// The first thing demand 3 asks of a walk between different nodes that does
+/// not hold.
+fn broken(
+    graph: &Graph,
+    walk: &Walk,
+    ends: (usize, usize),
+    failed: Option<usize>,
+    joined: bool,
+) -> Option<&'static str> {
+    let nodes: Vec<usize> = walk.nodes.iter().map(|&node| usize::from(node)).collect();
+    if nodes.first() != Some(&ends.0) {
+        return Some("starts elsewhere");
+    }
+    let mut crossed = vec![false; graph.interfaces()];
+    for hop in nodes.windows(2) {
+        let Some(interface) = graph.interface(hop[0], hop[1]) else {
+            return Some("crosses no link");
+        };
+        if failed == Some(interface / 2) {
+            return Some("crosses the failed link");
+        }
+        if std::mem::replace(&mut crossed[interface], true) {
+            return Some("crosses a link twice in one direction");
+        }
+    }
+    let fits = match (joined, walk.ending) {
+        (true, walk::DELIVERED) => {
+            nodes.last() == Some(&ends.1) && walk.hops() + 3 <= 2 * graph.nodes
+        }
+        (false, walk::NO_ENTRY_AT_START) => walk.hops() == 0,
+        (false, walk::DROPPED) => walk.hops() + 2 <= graph.nodes,
+        _ => false,
+    };
+    if fits { None } else { Some("ends wrongly or too late") }
+}
+
+fn ending_name(ending: u8) -> &'static str {
+    match ending {
+        walk::DELIVERED => "  such walks, ending 0",
+        walk::NO_ENTRY_AT_START => "  such walks, ending 1",
+        walk::DROPPED => "  such walks, ending 2",
+        walk::LIMIT_USED => "  such walks, ending 3",
+        _ => "  such walks, ending 4",
+    }
+}
+
+fn walk_all(tally: &mut Tally, network: &Network) {
+    let Ok(graph) = network.graph() else {
+        return tally.check("networks drawn are good", false, || described(network));
+    };
+    tally.count("networks walked");
+    let built = tables::build(&mut Best::new(&graph, by_tree));
+    let accepted = walk::figures(network, built.lent(), Failure::None).is_ok();
+    tally.check("built tables are accepted", accepted, || described(network));
+    for failed in std::iter::once(None).chain((0..graph.links.len()).map(Some)) {
+        let part = parts(&graph, failed);
+        for source in 0..graph.nodes {
+            for d in 0..graph.nodes {
+                let place = || format!("{source} to {d}, failed {failed:?}, {}", described(network));
+                let walk = walk::follow(&graph, built.lent(), source, d, failed, u8::MAX);
+                if source == d {
+                    let stays = walk.ending == walk::DELIVERED && walk.hops() == 0;
+                    tally.check("walks to the source itself", stays, place);
+                    let step = walk::take(&graph, built.lent(), walk::At::Start(d), d, failed);
+                    let done = matches!(step, Step::Delivered);
+                    tally.check("steps at the destination", done, place);
+                    continue;
+                }
+                let joined = part[source] == part[d];
+                let broken = broken(&graph, &walk, (source, d), failed, joined);
+                let told = || format!("{}, {:?}, {}", broken.unwrap_or(""), walk.nodes, place());
+                tally.check("walks that keep demand 3", broken.is_none(), told);
+                tally.count(ending_name(walk.ending));
+                if walk.hops() + 3 == 2 * graph.nodes {
+                    tally.count("  such walks, as long as allowed");
+                }
+            }
+        }
+    }
+}
+
+// ----------------------------------------------------------------- main
+
+/// Whether everything held.
+pub fn run(output: &mut impl std::io::Write) -> Result<bool, String> {
+    let mut well = true;
+    let mut part = |work: &mut dyn FnMut(&mut Tally)| -> Result<(), String> {
+        let mut tally = Tally::default();
+        work(&mut tally);
+        well &= tally.faults.is_empty();
+        tell(output, &tally).map_err(|fault| fault.to_string())
+    };
+    let mut chance = Chance(0x5EED);
+    part(&mut bench_sheet)?;
+    part(&mut |tally| {
+        for _ in 0..SMALL_NETWORKS {
+            let nodes = 1 + chance.below(8);
+            let links = chance.below(3 * nodes);
+            let network = draw(&mut chance, nodes, links);
+            compare_ways(tally, &mut chance, &network);
+        }
+    })?;
+    part(&mut |tally| {
+        for number in 0..WALKED_NETWORKS {
+            let nodes = if number % 4 == 0 { 9 + chance.below(24) } else { 1 + chance.below(9) };
+            let links = chance.below(3 * nodes);
+            walk_all(tally, &draw(&mut chance, nodes, links));
+        }
+    })?;
+    let verdict = if well { "selftest passed" } else { "selftest FAILED" };
+    writeln!(output, "{verdict}").map_err(|fault| fault.to_string())?;
+    Ok(well)
+}
+
+fn tell(output: &mut impl std::io::Write, tally: &Tally) -> std::io::Result<()> {
+    for (what, count) in &tally.counts {
+        writeln!(output, "{count:9} {what}")?;
+    }
+    for fault in tally.faults.iter().take(MOST_TOLD) {
+        writeln!(output, "FAULT {fault}")?;
+    }
+    if tally.faults.len() > MOST_TOLD {
+        writeln!(output, "{} more faults", tally.faults.len() - MOST_TOLD)?;
+    }
+    Ok(())
+}

@@ -1,0 +1,254 @@
+//! The step and the walk over any tables, and the figures of a failure line.
+
+use crate::network::{index, Graph, Network, Refusal};
+use crate::tables::{Lent, NO_PATH, OWN};
+
+/// A failure as it is lent: the link need not exist.
+#[derive(Clone, Copy)]
+pub enum Failure {
+    None,
+    Link(u64),
+}
+
+impl Failure {
+    fn check(self, graph: &Graph) -> Result<Option<usize>, Refusal> {
+        match self {
+            Failure::None => Ok(None),
+            Failure::Link(number) => index(number, graph.links.len(), 12).map(Some),
+        }
+    }
+}
+
+/// Where a step is asked, as it is lent.
+pub enum Asked {
+    Start(u64),
+    Arrival(u64),
+}
+
+/// Where a packet is, once checked. On arrival, the node that the interface
+/// enters decides.
+#[derive(Clone, Copy)]
+pub enum At {
+    Start(usize),
+    Arrival(usize),
+}
+
+pub enum Step {
+    Delivered,
+    Nothing,
+    Dropped,
+    Next { node: usize, interface: usize },
+}
+
+// ------------------------------------------------------ refusals 14, 16
+
+fn table_lengths(graph: &Graph, tables: Lent) -> Result<(), Refusal> {
+    let (nodes, interfaces) = (graph.nodes, graph.interfaces());
+    let enough = tables.routing.len() >= nodes * nodes
+        && tables.forwarding.len() >= interfaces * nodes
+        && tables.backwarding.len() >= interfaces * nodes;
+    if enough { Ok(()) } else { Err(Refusal::whole(14)) }
+}
+
+/// Whether each entry of a row could be followed by its deciding node.
+fn row_fits(graph: &Graph, decider: usize, row: &[u8]) -> bool {
+    row.iter().enumerate().all(|(d, &entry)| {
+        if d == decider {
+            entry == OWN
+        } else {
+            entry == NO_PATH || graph.link(decider, usize::from(entry)).is_some()
+        }
+    })
+}
+
+fn table_entries(graph: &Graph, tables: Lent) -> Result<(), Refusal> {
+    let (nodes, interfaces) = (graph.nodes, graph.interfaces());
+    // Bytes past the last row are no entries, whatever they are.
+    let mut routing = tables.routing.chunks(nodes).take(nodes).enumerate();
+    let mut forwarding = tables.forwarding.chunks(nodes).take(interfaces).enumerate();
+    let mut backwarding = tables.backwarding.chunks(nodes).take(interfaces).enumerate();
+    let fits = routing.all(|(i, row)| row_fits(graph, i, row))
+        && forwarding.all(|(interface, row)| row_fits(graph, graph.ends(interface).1, row))
+        && backwarding.all(|(interface, row)| row_fits(graph, graph.ends(interface).0, row));
+    if fits { Ok(()) } else { Err(Refusal::whole(16)) }
+}
+
+// ------------------------------------------------------------- moving
+
+/// One step; everything has been checked.
+pub fn take(graph: &Graph, tables: Lent, at: At, d: usize, failed: Option<usize>) -> Step {
+    let (node, table, row) = match at {
+        At::Start(node) => (node, tables.routing, node),
+        At::Arrival(interface) => (graph.ends(interface).1, tables.forwarding, interface),
+    };
+    if node == d {
+        return Step::Delivered;
+    }
+    // The way to a neighbour by an entry, none for the entry 255. The entry
+    // is not 254, as that one stands only where d is the deciding node.
+    let follow = |table: &[u8], row: usize| {
+        let next = usize::from(table[row * graph.nodes + d]);
+        graph.interface(node, next).map(|interface| (next, interface))
+    };
+    let works = |interface: usize| failed != Some(interface / 2);
+
+    let Some((next, interface)) = follow(table, row) else {
+        return Step::Nothing;
+    };
+    if works(interface) {
+        return Step::Next { node: next, interface };
+    }
+    match follow(tables.backwarding, interface) {
+        Some((next, interface)) if works(interface) => Step::Next { node: next, interface },
+        _ => Step::Dropped,
+    }
+}
+
+pub const DELIVERED: u8 = 0;
+pub const NO_ENTRY_AT_START: u8 = 1;
+pub const DROPPED: u8 = 2;
+pub const LIMIT_USED: u8 = 3;
+pub const NO_ENTRY_ON_ARRIVAL: u8 = 4;
+
+pub struct Walk {
+    pub ending: u8,
+    /// Hops + 1 of them, source first.
+    pub nodes: Vec<u8>,
+}
+
+impl Walk {
+    pub fn hops(&self) -> usize {
+        self.nodes.len() - 1
+    }
+}
+
+/// One walk; everything has been checked.
+pub fn follow(
+    graph: &Graph,
+    tables: Lent,
+    source: usize,
+    d: usize,
+    failed: Option<usize>,
+    limit: u8,
+) -> Walk {
+    let mut walk = Walk { ending: DELIVERED, nodes: vec![source as u8] };
+    let mut at = At::Start(source);
+    let mut node = source;
+    // The destination comes before the limit, and the limit before the step.
+    while node != d {
+        if walk.hops() == usize::from(limit) {
+            walk.ending = LIMIT_USED;
+            break;
+        }
+        match take(graph, tables, at, d, failed) {
+            Step::Next { node: next, interface } => {
+                walk.nodes.push(next as u8);
+                node = next;
+                at = At::Arrival(interface);
+            }
+            Step::Nothing => {
+                walk.ending = match at {
+                    At::Start(_) => NO_ENTRY_AT_START,
+                    At::Arrival(_) => NO_ENTRY_ON_ARRIVAL,
+                };
+                break;
+            }
+            Step::Dropped => {
+                walk.ending = DROPPED;
+                break;
+            }
+            Step::Delivered => unreachable!("a step away from its destination"),
+        }
+    }
+    walk
+}
+
+/// Figures of one failure line of the report.
+#[derive(Default)]
+pub struct Figures {
+    pub delivered: usize,
+    pub dropped: usize,
+    pub hops: usize,
+    pub longest: usize,
+}
+
+const REPORT_LIMIT: u8 = 64;
+
+/// Every ordered pair of different nodes; everything has been checked.
+pub fn count(graph: &Graph, tables: Lent, failed: Option<usize>) -> Figures {
+    let mut figures = Figures::default();
+    for source in 0..graph.nodes {
+        for d in (0..graph.nodes).filter(|&d| d != source) {
+            let walk = follow(graph, tables, source, d, failed, REPORT_LIMIT);
+            if walk.ending == DELIVERED {
+                figures.delivered += 1;
+                figures.hops += walk.hops();
+                figures.longest = figures.longest.max(walk.hops());
+            } else {
+                figures.dropped += 1;
+            }
+        }
+    }
+    figures
+}
+
+// ------------------------------------------- the entries with refusals
+
+/// Refusals: the network's, 13, 12, 11 (start node, then destination), 14,
+/// 16.
+pub fn step(
+    network: &Network,
+    tables: Lent,
+    asked: Asked,
+    destination: u64,
+    failure: Failure,
+) -> Result<Step, Refusal> {
+    let graph = network.graph()?;
+    // An interface is checked before the failure, a start node after it.
+    if let Asked::Arrival(interface) = asked {
+        index(interface, graph.interfaces(), 13)?;
+    }
+    let failed = failure.check(&graph)?;
+    let at = match asked {
+        Asked::Start(node) => At::Start(index(node, graph.nodes, 11)?),
+        Asked::Arrival(interface) => At::Arrival(interface as usize),
+    };
+    let destination = index(destination, graph.nodes, 11)?;
+    table_lengths(&graph, tables)?;
+    table_entries(&graph, tables)?;
+    Ok(take(&graph, tables, at, destination, failed))
+}
+
+/// Refusals: the network's, 12, 11 (source, then destination), 14, 16, 15.
+/// Writes hops + 1 bytes of the trace.
+pub fn walk(
+    network: &Network,
+    tables: Lent,
+    source: u64,
+    destination: u64,
+    failure: Failure,
+    limit: u8,
+    trace: &mut [u8],
+) -> Result<Walk, Refusal> {
+    let graph = network.graph()?;
+    let failed = failure.check(&graph)?;
+    let source = index(source, graph.nodes, 11)?;
+    let destination = index(destination, graph.nodes, 11)?;
+    table_lengths(&graph, tables)?;
+    table_entries(&graph, tables)?;
+    if trace.len() < usize::from(limit) + 1 {
+        return Err(Refusal::whole(15));
+    }
+    let walk = follow(&graph, tables, source, destination, failed, limit);
+    trace[..walk.nodes.len()].copy_from_slice(&walk.nodes);
+    Ok(walk)
+}
+
+/// Refusals: the network's, 12, 14, 16.
+pub fn figures(network: &Network, tables: Lent, failure: Failure) -> Result<Figures, Refusal> {
+    let graph = network.graph()?;
+    let failed = failure.check(&graph)?;
+    table_lengths(&graph, tables)?;
+    table_entries(&graph, tables)?;
+    Ok(count(&graph, tables, failed))
+}
