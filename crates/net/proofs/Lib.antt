@@ -4,3 +4,5 @@ pub mod Stages
 pub mod Accepted
 pub mod Refused
 pub mod Determined
+pub mod Verdicts
+pub mod Bytes

@@ -1,0 +1,33 @@
+-- Checks one after the other: all are passed exactly if each is, and then the answer is the last one's.
+use Prim.Native.Nat.{ℕ}
+use mathlib.Core.Bool.{Bool, false}
+use mathlib.Core.Path.{_≡_, sym, ap, _∙_}
+use mathlib.Core.Logic.{_≢_}
+use native.Mathlib.Decide.{ℕ-discrete}
+use borrow.Author.Tests.{eq-eqb, ne-eqb}
+use Rattle.net.specs.Refusals.{accepted}
+use Rattle.net.specs.Check.{verdict, orElse, refusedIf}
+use Rattle.net.specs.declared.check.Verdict.{Verdict}
+
+module _ (first second : Verdict) where
+  -- the first check is passed: the second decides
+  pub or-else-second : first .number ≡ accepted → orElse first second ≡ second
+  unfolding orElse
+  or-else-second e = simp (eq-eqb (first .number) accepted e)
+
+  -- it is not: the first decides
+  pub or-else-first : first .number ≢ accepted → orElse first second ≡ first
+  unfolding orElse
+  or-else-first n = simp (ne-eqb (first .number) accepted n)
+
+  -- both are passed only if the first is
+  pub first-accepted : orElse first second .number ≡ accepted → first .number ≡ accepted
+  first-accepted e =
+      elim (ℕ-discrete (first .number) accepted) [
+        | yes q ↦ q
+        | no n ↦ sym (ap (λ (v : Verdict). v .number) (or-else-first n)) ∙ e
+      ]
+
+pub not-refused : {test : Bool} (number : ℕ) → test ≡ false → refusedIf test number ≡ verdict accepted
+unfolding refusedIf
+not-refused number e = rw e
