@@ -1,0 +1,58 @@
+-- What `best_path` answers from an entry of the square: the measures of the best path, and the routing entry as a byte.
+use Prim.Native.Nat.{ℕ, _%_, _≤_}
+use mathlib.Core.Bool.{true, false}
+use mathlib.Core.Path.{_≡_, refl}
+use mathlib.Core.Logic.{_≢_}
+use mathlib.Core.List.{List, []}
+use native.Mathlib.Omega.{arith}
+use Rattle.graph.specs.Network.{Network, WellFormed}
+use Rattle.graph.specs.Path.{stop, Over.none as over-none, All, weightSum}
+use Rattle.graph.proofs.Chain.{Best}
+use Rattle.graph.proofs.Simple.{simple}
+use Rattle.graph.proofs.Agreement.{best-path}
+use Rattle.graph.proofs.Sets.{set-of-path}
+use Rattle.net.specs.Limits.{mostNodes}
+use Rattle.net.specs.Entry.{nowhereByte, EntryByte}
+use Rattle.net.specs.Rows.{networkOf, headOf}
+use Rattle.net.proofs.Bytes.{nowhere-byte, onward-byte}
+use Rattle.paths.specs.Cost.{isKnown}
+use Rattle.paths.specs.Square.{Shows}
+use Rattle.paths.specs.Best.{Measures, of-path, of-none}
+use Rattle.paths.specs.declared.cost.Cost.{Cost}
+use Rattle.paths.proofs.Shown.{known-true, known-false, leads, leads-nowhere, shown-known, shown-unknown, shown-tells, measured-set}
+
+module _ (N : Network) (W : WellFormed N) {s d : ℕ} where
+  -- the measures of a known entry are those of the best path
+  pub shown-measures : {c : Cost} → Shows N All s d c → isKnown c ≡ true → Measures N s d (c .sum) (c .links)
+  shown-measures {c} shown known =
+      let (p, m) = shown-known N W shown (known-true c .0 known) in
+      of-path (best-path N W (m .best)) (m .sum) (measured-set N W m)
+
+  -- no path, nothing to measure
+  pub unknown-measures : {c : Cost} → Shows N All s d c → isKnown c ≡ false → Measures N s d 0 0
+  unknown-measures {c} shown lost = of-none (shown-unknown N W shown (known-false c .0 lost)) refl refl
+
+  -- at the destination the best path is empty
+  pub here-measures : s ≡ d → Measures N s d 0 0
+  unfolding weightSum
+  here-measures e =
+      let t : Best N All s [] d = record { chain = stop e; over = over-none; least = λ {q} c o. omega arith } in
+      of-path (best-path N W t) refl (set-of-path W (simple N W t))
+
+module _ (n : ℕ) (low high weight : List ℕ) (W : WellFormed (networkOf n low high weight)) (few : n ≤ mostNodes)
+    {X : ℕ → Type 0} {i d : ℕ} where
+  -- away from the destination a known entry gives a node, an unknown one none
+  module _ {c : Cost} (shown : Shows (networkOf n low high weight) X i d c) (away : i ≢ d) where
+    pub known-byte : isKnown c ≡ true → EntryByte (networkOf n low high weight) X i d (headOf low high (c .first) % 256)
+    known-byte known =
+        elim (shown-tells (networkOf n low high weight) W shown away) [
+          | leads h entry ↦ onward-byte n low high weight W few entry
+          | leads-nowhere h entry ↦ absurd (omega (arith, known-true c .0 known))
+        ]
+
+    pub unknown-byte : isKnown c ≡ false → EntryByte (networkOf n low high weight) X i d nowhereByte
+    unknown-byte lost =
+        elim (shown-tells (networkOf n low high weight) W shown away) [
+          | leads h entry ↦ absurd (omega (arith, known-false c .0 lost))
+          | leads-nowhere h entry ↦ nowhere-byte entry
+        ]

@@ -1,0 +1,10 @@
+pub mod Cells
+pub mod Pair
+pub mod Offers
+pub mod BestSquare
+pub mod Shape
+pub mod Unfold
+pub mod Shown
+pub mod Answers
+pub mod Determined
+pub mod Verdict

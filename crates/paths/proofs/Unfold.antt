@@ -1,0 +1,108 @@
+-- The definitions of the square, unfolded once where the code takes one step: one node told of the way to itself, a link's two offers
+-- for one destination, one link of a round, one round more. The code counts up to m where a definition counts down what is left, so
+-- that m - i is left at i.
+use Prim.Native.Nat.{ℕ, zero, suc, _+_, _*_, _-_, _≤_, _<_}
+use mathlib.Core.Path.{_≡_, refl, sym, ap}
+use mathlib.Core.Logic.{_≢_}
+use mathlib.Core.List.{List, []}
+use native.Mathlib.Nat.{sub-zero}
+use native.Mathlib.Omega.{arith}
+use borrow.Author.Tests.{eq-eqb, ne-eqb}
+use lib.Dec.{eqb}
+use lib.ListN.{length, getD, replicate}
+use Rattle.net.specs.Limits.{mostNodes}
+use Rattle.net.specs.Check.{pick}
+use Rattle.paths.specs.Cost.{noCost, extended, lesserOf}
+use Rattle.paths.specs.Square.{cell, put, offer, offersOf, roundFrom, roundOf, roundsOf, startFrom, startSquare}
+use Rattle.paths.specs.declared.cost.Cost.{Cost}
+use Rattle.paths.proofs.Cells.{Shaped, hereCost, put-here, put-elsewhere, bothOffers}
+use Rattle.paths.proofs.Shape.{read-cell}
+
+all-done : (m i : ℕ) → m ≤ i → m - i ≡ 0
+all-done m i h = omega arith
+
+one-less : (m i : ℕ) → i < m → m - i ≡ suc (m - (i + 1))
+one-less m i h = omega arith
+
+one-more : (i : ℕ) → suc i ≡ i + 1
+one-more i = omega arith
+
+-- at the start nothing is known
+pub start-begin : (n : ℕ) {none : Cost} → none ≡ noCost → startSquare n ≡ startFrom (n - 0) 0 (replicate mostNodes (replicate mostNodes none))
+unfolding startSquare
+start-begin n e = rw sub-zero (ap (λ (c : Cost). startFrom n 0 (replicate mostNodes (replicate mostNodes c))) (sym e))
+
+-- the nodes from i on, of m, told of the way to themselves
+module _ (m i : ℕ) (square : List (List Cost)) where
+  pub start-done : m ≤ i → startFrom (m - i) i square ≡ square
+  unfolding startFrom
+  start-done h = rw (all-done m i h)
+
+  pub start-on : i < m → startFrom (m - i) i square ≡ startFrom (m - (i + 1)) (i + 1) (put square i i hereCost)
+  unfolding startFrom
+  start-on h = rw (one-less m i h, ← one-more i)
+
+-- the offers of a link for the destinations from d on, of m
+module _ (m k x y weight d : ℕ) (square : List (List Cost)) where
+  pub offers-done : m ≤ d → offersOf (m - d) k x y weight d square ≡ square
+  unfolding offersOf
+  offers-done h = rw (all-done m d h)
+
+  pub offers-on : d < m → (next : List (List Cost)) → bothOffers k x y weight d square ≡ next
+      → offersOf (m - d) k x y weight d square ≡ offersOf (m - (d + 1)) k x y weight (d + 1) next
+  unfolding offersOf
+  offers-on h next e = rw (one-less m d h, ← one-more d, ← e)
+
+-- Both offers of a link for one destination, as the code makes them: it reads both entries before it stores one, and they lie in
+-- different rows. `past` is what a read past an array's end would give.
+pub both-offers : (k x y weight d : ℕ) (square : List (List Cost)) → Shaped square → x < mostNodes → y < mostNodes → d < mostNodes → x ≢ y
+    → (past : Cost) {up nearer down other : Cost}
+    → up ≡ extended (getD (getD square y []) d past) weight k (2 * k) → nearer ≡ lesserOf (getD (getD square x []) d past) up
+    → down ≡ extended nearer weight k (2 * k + 1) → other ≡ lesserOf (getD (getD square y []) d past) down
+    → bothOffers k x y weight d square ≡ put (put square x d nearer) y d other
+unfolding offer
+both-offers k x y weight d square shaped row-x row-y column differ past {nearer} up-is nearer-is down-is other-is =
+    let here : getD (getD square x []) d past ≡ cell square x d = read-cell square shaped x d row-x column past in
+    let there : getD (getD square y []) d past ≡ cell square y d = read-cell square shaped y d row-y column past in
+    let first : put square x d (lesserOf (cell square x d) (extended (cell square y d) weight k (2 * k))) ≡ put square x d nearer = cc in
+    let kept : cell (put square x d nearer) y d ≡ cell square y d = put-elsewhere square shaped x row-x d nearer y d (λ e. differ (sym e)) in
+    let stored : cell (put square x d nearer) x d ≡ nearer = put-here square shaped x row-x d nearer column in
+    rw (first, kept, stored) (cc)
+
+-- the links from k on, of m in all
+module _ (m n : ℕ) (low high weight : List ℕ) (out k : ℕ) (square : List (List Cost)) where
+  pub round-done : m ≤ k → roundFrom (m - k) n low high weight out k square ≡ square
+  unfolding roundFrom
+  round-done h = rw (all-done m k h)
+
+  round-step : k < m
+      → roundFrom (m - k) n low high weight out k square
+      ≡ roundFrom (m - (k + 1)) n low high weight out (k + 1)
+      (pick (eqb k out) square (offersOf n k (getD low k 0) (getD high k 0) (getD weight k 0) 0 square))
+  unfolding roundFrom
+  round-step h = rw (one-less m k h, ← one-more k)
+
+  pub round-out : k < m → k ≡ out
+      → roundFrom (m - k) n low high weight out k square ≡ roundFrom (m - (k + 1)) n low high weight out (k + 1) square
+  round-out h e = rw (round-step h, eq-eqb k out e)
+
+  pub round-on : k < m → k ≢ out → (next : List (List Cost))
+      → offersOf n k (getD low k 0) (getD high k 0) (getD weight k 0) 0 square ≡ next
+      → roundFrom (m - k) n low high weight out k square ≡ roundFrom (m - (k + 1)) n low high weight out (k + 1) next
+  round-on h other next e = rw (round-step h, ne-eqb k out other, e)
+
+pub round-begin : (n : ℕ) (low high weight : List ℕ) (out : ℕ) (square : List (List Cost))
+    → roundOf n low high weight out square ≡ roundFrom (length low - 0) n low high weight out 0 square
+unfolding roundOf
+round-begin n low high weight out square = rw sub-zero
+
+-- no round, and one round more, at the end
+pub rounds-none : (n : ℕ) (low high weight : List ℕ) (out : ℕ) (square : List (List Cost)) → roundsOf 0 n low high weight out square ≡ square
+unfolding roundsOf
+rounds-none n low high weight out square = refl
+
+pub rounds-on : (rounds n : ℕ) (low high weight : List ℕ) (out : ℕ) (square : List (List Cost))
+    → roundsOf (suc rounds) n low high weight out square ≡ roundOf n low high weight out (roundsOf rounds n low high weight out square)
+unfolding roundsOf
+rounds-on zero n low high weight out square = refl
+rounds-on (suc rounds) n low high weight out square = rounds-on rounds n low high weight out (roundOf n low high weight out square)

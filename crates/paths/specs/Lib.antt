@@ -1,0 +1,3 @@
+pub mod Cost
+pub mod Square
+pub mod Best

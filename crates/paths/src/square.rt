@@ -1,0 +1,83 @@
+// The square of costs: an array of arrays, passed and returned by value between rounds. Rounds go over links.
+ghost use mathlib.Core.Path.{_≡_};
+ghost use Prim.Native.Nat.{_≤_};
+ghost use lib.ListN.{length};
+ghost use Rattle.net.specs.Limits.{mostNodes};
+ghost use Rattle.net.specs.Check.{Accepted};
+ghost use Rattle.net.specs.Rows.{networkOf};
+ghost use Rattle.paths.specs.Square.{startSquare, roundOf, BestSquare};
+use crate::cost::Cost;
+use crate::cost::extend;
+use crate::cost::lesser;
+use crate::cost::no_cost;
+
+// Each of n nodes knows the way to itself.
+fn start(n: usize) -> [[Cost; 32]; 32]
+    requires { ⌜ n ≤ mostNodes ⌝ }
+    ensures { λ r. ⌜ r ≡ startSquare n ⌝ }
+{
+    let unknown = no_cost();
+    let mut square = [[unknown; 32]; 32];
+    let mut i: usize = 0;
+    while i < n {
+        square[i][i] = Cost {
+            sum: 0,
+            links: 0,
+            first: 0,
+        };
+        i += 1;
+    }
+    square
+}
+
+// One round: both interfaces of every link but `out` make their offers, for each destination.
+fn round(
+    square: [[Cost; 32]; 32],
+    n: usize,
+    low: &[u8],
+    high: &[u8],
+    weight: &[u32],
+    out: usize,
+) -> [[Cost; 32]; 32]
+    requires { ⌜ Accepted n (now low) (now high) (now weight) ⌝ }
+    ensures { λ r. ⌜ r ≡ roundOf n (now (low .entry)) (now (high .entry)) (now (weight .entry)) out square ⌝ }
+{
+    let mut next = square;
+    let links = low.len();
+    let mut k: usize = 0;
+    while k < links {
+        if k != out {
+            let x = low[k] as usize;
+            let y = high[k] as usize;
+            let w = weight[k];
+            let up = (2 * k) as u8;
+            let down = (2 * k + 1) as u8;
+            let mut d: usize = 0;
+            while d < n {
+                let a = next[x][d];
+                let b = next[y][d];
+                let nearer = lesser(a, extend(b, w, k, up));
+                next[x][d] = nearer;
+                next[y][d] = lesser(b, extend(nearer, w, k, down));
+                d += 1;
+            }
+        }
+        k += 1;
+    }
+    next
+}
+
+// The best paths between all pairs over the links other than `out`.
+pub fn square_of(n: usize, low: &[u8], high: &[u8], weight: &[u32], out: usize) -> [[Cost; 32]; 32]
+    requires { ⌜ Accepted n (now low) (now high) (now weight) ⌝ }
+    ensures { λ r. ⌜ BestSquare (networkOf n (now (low .entry)) (now (high .entry)) (now (weight .entry))) out r ⌝ }
+{
+    let mut square = start(n);
+    let mut r: usize = 1;
+    while r < n {
+        let next = round(square, n, low, high, weight, out);
+        square = next;
+        r += 1;
+    }
+    square
+}
