@@ -757,8 +757,15 @@ fn push_row_at_random(chance: &mut Chance, made: &mut Made) {
 }
 
 /// The link that a packet comes to within a few moves over these tables, so
-/// that its failure matters. None once the packet stays where it is.
-fn link_ahead(chance: &mut Chance, net: &Net, tables: &Tables, at: (usize, usize), d: usize) -> Option<usize> {
+/// that its failure matters; none if it cannot make the first. `at` is the
+/// table and the row that it is looked up in first.
+fn link_ahead(
+    chance: &mut Chance,
+    net: &Net,
+    tables: &Tables,
+    at: (usize, usize),
+    d: usize,
+) -> Option<usize> {
     let (mut table, mut row) = at;
     let mut ahead = None;
     for _ in 0..=chance.below(4) {
@@ -772,19 +779,30 @@ fn link_ahead(chance: &mut Chance, net: &Net, tables: &Tables, at: (usize, usize
     ahead
 }
 
+/// How often something is put wrong in a record: mostly seldom, but in some
+/// records nearly everything, since then the order of refusals decides.
+fn wrong_in(chance: &mut Chance) -> usize {
+    chance.pick(&[40, 40, 40, 40, 2])
+}
+
 /// A failure's bytes: none, the link ahead, any link, or no link at all.
-fn failure(chance: &mut Chance, net: &Net, ahead: Option<usize>, wrong: &mut bool) -> Vec<u8> {
-    let any = chance.below(net.links().max(1)) as u64;
-    let (kind, number) = match (chance.below(16), ahead) {
-        (0, _) => {
-            *wrong = true;
-            (1, chance.too_large(net.links()))
-        }
+fn failure(
+    chance: &mut Chance,
+    net: &Net,
+    ahead: Option<usize>,
+    wrong_in: usize,
+    wrong: &mut bool,
+) -> Vec<u8> {
+    let (kind, number) = match (chance.below(8), ahead) {
         // With no failure the number says nothing, even if it is too large.
-        (1..=2, _) => (0, chance.pick(&[any, 0, u64::MAX])),
-        (3..=11, Some(link)) => (1, link as u64),
-        _ if net.links() == 0 => (0, any),
-        _ => (1, any),
+        (0, _) => (0, chance.pick(&[0, 1, u64::MAX])),
+        (1..=4, Some(link)) if !chance.one_in(wrong_in) => (1, link as u64),
+        // Without links, link 0 is the one most easily let through.
+        (1..=4, None) if net.links() == 0 => {
+            *wrong = true;
+            (1, 0)
+        }
+        _ => (1, number(chance, net.links(), wrong_in, wrong)),
     };
     [&[kind][..], &eight(number)].concat()
 }
@@ -800,28 +818,36 @@ fn case_of(damage: Option<&'static str>, wrong: bool) -> &'static str {
 }
 
 /// Tables for one record: as drawn, lengthened, or damaged.
-fn lent(chance: &mut Chance, net: &Net, drawn: &Tables) -> (Tables, Option<&'static str>) {
+fn lent(
+    chance: &mut Chance,
+    net: &Net,
+    drawn: &Tables,
+    wrong_in: usize,
+) -> (Tables, Option<&'static str>) {
     let mut tables = drawn.clone();
     if chance.one_in(4) {
         lengthened(chance, &mut tables);
     }
-    let damage = chance.one_in(5).then(|| damaged(chance, net, &mut tables));
+    // Tables can be put wrong in more ways than numbers can.
+    let damage = chance.one_in(wrong_in.min(6)).then(|| damaged(chance, net, &mut tables));
     (tables, damage)
 }
 
 fn push_step(chance: &mut Chance, made: &mut Made, net: &Net, drawn: &Tables) {
-    let (tables, damage) = lent(chance, net, drawn);
+    let wrong_in = wrong_in(chance);
+    let (tables, damage) = lent(chance, net, drawn, wrong_in);
     let mut wrong = false;
-    let arrival = net.links() > 0 && chance.one_in(2) || chance.one_in(30);
+    // Without links there is no interface to arrive on.
+    let arrival = chance.one_in(if net.links() > 0 { 2 } else { 6 });
     let limit = if arrival { net.interfaces() } else { net.size() };
-    let asked = number(chance, limit, 20, &mut wrong);
-    let d = number(chance, net.size(), 20, &mut wrong);
+    let asked = number(chance, limit, wrong_in, &mut wrong);
+    let d = number(chance, net.size(), wrong_in, &mut wrong);
     let ahead = if wrong {
         None
     } else {
         link_ahead(chance, net, &tables, (usize::from(arrival), asked as usize), d as usize)
     };
-    let failure = failure(chance, net, ahead, &mut wrong);
+    let failure = failure(chance, net, ahead, wrong_in, &mut wrong);
     let parts: [&[u8]; 6] = [
         &net.bytes(),
         &table_bytes(&tables),
@@ -834,16 +860,17 @@ fn push_step(chance: &mut Chance, made: &mut Made, net: &Net, drawn: &Tables) {
 }
 
 fn push_walk(chance: &mut Chance, made: &mut Made, net: &Net, drawn: &Tables) {
-    let (tables, damage) = lent(chance, net, drawn);
+    let wrong_in = wrong_in(chance);
+    let (tables, damage) = lent(chance, net, drawn, wrong_in);
     let mut wrong = false;
-    let source = number(chance, net.size(), 20, &mut wrong);
-    let d = number(chance, net.size(), 20, &mut wrong);
+    let source = number(chance, net.size(), wrong_in, &mut wrong);
+    let d = number(chance, net.size(), wrong_in, &mut wrong);
     let ahead = if wrong {
         None
     } else {
         link_ahead(chance, net, &tables, (0, source as usize), d as usize)
     };
-    let failure = failure(chance, net, ahead, &mut wrong);
+    let failure = failure(chance, net, ahead, wrong_in, &mut wrong);
     let limit = match chance.below(4) {
         0 => chance.pick(&[0, 1, 2, 3, 254, 255]),
         1 => chance.below(2 * net.size() + 1) as u8,
@@ -874,9 +901,10 @@ fn push_walk(chance: &mut Chance, made: &mut Made, net: &Net, drawn: &Tables) {
 }
 
 fn push_figures(chance: &mut Chance, made: &mut Made, net: &Net, drawn: &Tables) {
-    let (tables, damage) = lent(chance, net, drawn);
+    let wrong_in = wrong_in(chance);
+    let (tables, damage) = lent(chance, net, drawn, wrong_in);
     let mut wrong = false;
-    let failure = failure(chance, net, None, &mut wrong);
+    let failure = failure(chance, net, None, wrong_in, &mut wrong);
     let parts: [&[u8]; 3] = [&net.bytes(), &table_bytes(&tables), &failure];
     made.push('F', case_of(damage, wrong), &parts);
 }

@@ -2,8 +2,7 @@
 //! trying every path, which is slow but says the rule word by word, and by
 //! Dijkstra's method. The self-test holds the one against the other.
 
-use crate::network::{Graph, Refusal};
-use crate::{network, tables};
+use crate::network::Graph;
 use std::collections::HashMap;
 
 /// The nodes of a path, first to last. At most one link joins a pair, so the
@@ -27,7 +26,7 @@ pub fn sum_of(graph: &Graph, chain: &[usize]) -> u64 {
     links_of(graph, chain).iter().map(|&link| u64::from(graph.links[link].weight)).sum()
 }
 
-fn set_of(graph: &Graph, chain: &[usize]) -> u64 {
+pub fn set_of(graph: &Graph, chain: &[usize]) -> u64 {
     links_of(graph, chain).iter().fold(0, |set, &link| set | 1 << link)
 }
 
@@ -147,23 +146,4 @@ impl<'a> Best<'a> {
         let all = self.found.entry((out, from)).or_insert_with(|| method(graph, out, from));
         all[to].as_deref()
     }
-}
-
-/// What is told of the best path between two nodes, all links present.
-pub struct Told {
-    pub sum: u64,
-    pub links: u64,
-    pub entry: u8,
-}
-
-/// Refusals: the network's, then 11 for the source and for the destination.
-pub fn told(network: &network::Network, source: u64, destination: u64) -> Result<Told, Refusal> {
-    let graph = network.graph()?;
-    let source = network::index(source, graph.nodes, 11)?;
-    let destination = network::index(destination, graph.nodes, 11)?;
-    let mut best = Best::new(&graph, by_tree);
-    let entry = tables::entry(&mut best, 0, source, destination);
-    // No path tells 0 and 0 like the path of no links; the entry differs.
-    let chain = best.path(0, source, destination).unwrap_or(&[]);
-    Ok(Told { sum: sum_of(&graph, chain), links: set_of(&graph, chain), entry })
 }

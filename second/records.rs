@@ -17,13 +17,14 @@
 //! link. HASH is 64-bit FNV-1a in 16 hex digits: for T over the three whole
 //! lent tables one after another, also if refused; for A over all walks (see
 //! `all_line`). The tables in hex follow only if N is 0 and there are at most
-//! 6 nodes; one of no bytes has an empty HEX, as has a refused row. Refused
-//! answers show 0 in every other figure, and `-` where the form says so.
+//! 6 nodes. A trace is shown whole, also if refused. Tables and traces of no
+//! bytes and refused rows have an empty HEX. Refused answers show 0 in every
+//! other figure, and `-` where the form says so.
 
 use crate::batch::{hex, Batch, UNTOUCHED};
 use crate::network::shown;
-use crate::paths::{self, Best, Told};
-use crate::tables::{self, Lent};
+use crate::paths::{by_tree, Best};
+use crate::tables::{self, Lent, Told};
 use crate::walk::{self, Asked, Failure, Figures, Step};
 
 const MOST_TABLE: usize = 5000;
@@ -100,7 +101,7 @@ fn best_line(batch: &mut Batch) -> Result<String, String> {
     let network = batch.network()?;
     let source = batch.little(8)?;
     let destination = batch.little(8)?;
-    let answer = paths::told(&network, source, destination);
+    let answer = tables::told(&network, source, destination);
     let (number, place) = shown(&answer);
     let Told { sum, links, entry } = answer.unwrap_or(Told { sum: 0, links: 0, entry: 0 });
     Ok(format!("best {number} at {place} sum {sum} links {links} entry {entry}"))
@@ -163,7 +164,7 @@ fn all_line(batch: &mut Batch) -> Result<String, String> {
     let Ok(graph) = answer else {
         return Ok(format!("all {number} at {place} -"));
     };
-    let built = tables::build(&mut Best::new(&graph, paths::by_tree));
+    let built = tables::build(&mut Best::new(&graph, by_tree));
     let mut hash = Fnv::new();
     for failed in std::iter::once(None).chain((0..graph.links.len()).map(Some)) {
         for source in 0..graph.nodes {

@@ -226,6 +226,51 @@ fn draw(chance: &mut Chance, nodes: usize, links: usize) -> Network {
 
 // ----------------------------------------------------- two ways to paths
 
+/// The node before each node in the tree of best paths from a root, none for
+/// the root and for nodes that are not in the tree.
+fn parents(graph: &Graph, out: u64, root: usize) -> Vec<Option<usize>> {
+    let chains = by_tree(graph, out, root);
+    let before_last = |chain: Vec<usize>| chain.iter().rev().nth(1).copied();
+    chains.into_iter().map(|chain| chain.and_then(before_last)).collect()
+}
+
+/// Whether `node` stands at or below `top` in such a tree.
+fn below(parents: &[Option<usize>], top: usize, node: usize) -> bool {
+    let mut climbing = Some(node);
+    while let Some(here) = climbing {
+        if here == top {
+            return true;
+        }
+        climbing = parents[here];
+    }
+    false
+}
+
+/// 000's algorithm 1: the key links of interface j to i for every d at once,
+/// by subtrees of best-path trees. Its edge u to v stands for the whole link.
+fn keys_by_algorithm(graph: &Graph, interface: usize) -> Vec<u64> {
+    let (j, i) = graph.ends(interface);
+    let mut keys = vec![0; graph.nodes];
+    let usual = parents(graph, 0, i);
+    if usual[j] != Some(i) {
+        return keys;
+    }
+    for (number, link) in graph.links.iter().enumerate() {
+        for u in [link.low, link.high] {
+            let without = parents(graph, 1 << number, u);
+            if without[i] != Some(j) {
+                continue;
+            }
+            for (d, keys) in keys.iter_mut().enumerate() {
+                if below(&usual, j, d) && below(&without, i, d) {
+                    *keys |= 1 << number;
+                }
+            }
+        }
+    }
+    keys
+}
+
 fn compare_ways(tally: &mut Tally, chance: &mut Chance, network: &Network) {
     let Ok(graph) = network.graph() else {
         return tally.check("networks drawn are good", false, || described(network));
@@ -261,11 +306,13 @@ fn compare_ways(tally: &mut Tally, chance: &mut Chance, network: &Network) {
     }
     let (mut trial, mut tree) = (Best::new(&graph, by_trial), Best::new(&graph, by_tree));
     for interface in 0..graph.interfaces() {
+        let algorithm = keys_by_algorithm(&graph, interface);
         for d in 0..graph.nodes {
             let one = tables::key_links(&mut trial, interface, d);
             let other = tables::key_links(&mut tree, interface, d);
             let place = || format!("interface {interface} for {d}, {}", described(network));
             tally.check("key links equal both ways", one == other, place);
+            tally.check("key links equal 000's algorithm", one == algorithm[d], place);
             if one.count_ones() > 1 {
                 tally.count("  such sets of several key links");
             } else if one != 0 {

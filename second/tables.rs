@@ -1,7 +1,7 @@
 //! Key links and the three tables, straight from document 01's formulas.
 
 use crate::network::{index, Network, Refusal, MOST_NODES};
-use crate::paths::{by_tree, Best};
+use crate::paths::{by_tree, set_of, sum_of, Best};
 
 /// The entry for the deciding node itself.
 pub const OWN: u8 = 254;
@@ -97,6 +97,25 @@ pub fn build(best: &mut Best) -> Tables {
 }
 
 // ------------------------------------------- the entries with refusals
+
+/// What is told of the best path between two nodes, all links present.
+pub struct Told {
+    pub sum: u64,
+    pub links: u64,
+    pub entry: u8,
+}
+
+/// Refusals: the network's, then 11 for the source and for the destination.
+pub fn told(network: &Network, source: u64, destination: u64) -> Result<Told, Refusal> {
+    let graph = network.graph()?;
+    let source = index(source, graph.nodes, 11)?;
+    let destination = index(destination, graph.nodes, 11)?;
+    let mut best = Best::new(&graph, by_tree);
+    let entry = entry(&mut best, 0, source, destination);
+    // No path tells 0 and 0 like the path of no links; the entry differs.
+    let chain = best.path(0, source, destination).unwrap_or(&[]);
+    Ok(Told { sum: sum_of(&graph, chain), links: set_of(&graph, chain), entry })
+}
 
 /// Refusals: the network's, then 13 and 11.
 pub fn keys(network: &Network, interface: u64, destination: u64) -> Result<u64, Refusal> {
