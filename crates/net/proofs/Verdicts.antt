@@ -1,7 +1,7 @@
 -- Checks one after the other: all are passed exactly if each is, and then the answer is the last one's.
 use Prim.Native.Nat.{ℕ}
-use mathlib.Core.Bool.{Bool, false}
-use mathlib.Core.Path.{_≡_, sym, ap, _∙_}
+use mathlib.Core.Bool.{Bool, true, false}
+use mathlib.Core.Path.{_≡_, refl, sym, ap, _∙_}
 use mathlib.Core.Logic.{_≢_}
 use native.Mathlib.Decide.{ℕ-discrete}
 use borrow.Author.Tests.{eq-eqb, ne-eqb}
@@ -28,6 +28,20 @@ module _ (first second : Verdict) where
         | no n ↦ sym (ap (λ (v : Verdict). v .number) (or-else-first n)) ∙ e
       ]
 
+  -- and only if the second is
+  pub second-accepted : orElse first second .number ≡ accepted → second .number ≡ accepted
+  second-accepted e = sym (ap (λ (v : Verdict). v .number) (or-else-second (first-accepted e))) ∙ e
+
 pub not-refused : {test : Bool} (number : ℕ) → test ≡ false → refusedIf test number ≡ verdict accepted
 unfolding refusedIf
 not-refused number e = rw e
+
+pub is-refused : {test : Bool} (number : ℕ) → test ≡ true → refusedIf test number ≡ verdict number
+unfolding refusedIf
+is-refused number e = rw e
+
+-- a check that is passed found its test false
+pub passed-test : (test : Bool) (number : ℕ) → number ≢ accepted → refusedIf test number .number ≡ accepted → test ≡ false
+unfolding refusedIf
+passed-test true number refusal e = absurd (refusal e)
+passed-test false number refusal e = refl

@@ -22,7 +22,7 @@ pub use interface::tail_of;
 pub struct Network {
     pub nodes: usize,
     pub links: usize,
-    pub low: [u8; 64],
-    pub high: [u8; 64],
-    pub weight: [u32; 64],
+    pub low: [u8; limit::LINKS],
+    pub high: [u8; limit::LINKS],
+    pub weight: [u32; limit::LINKS],
 }

@@ -29,7 +29,7 @@ array-shaped own square values long owned =
     record { rows = long; row = λ i h. rows-of own mostNodes square values owned i (omega arith) }
 
 -- within a list, any element may stand for what lies past its end
-within : {A : Type 0} (l : List A) (i : ℕ) (a b : A) → i < length l → getD l i a ≡ getD l i b
+pub within : {A : Type 0} (l : List A) (i : ℕ) (a b : A) → i < length l → getD l i a ≡ getD l i b
 within [] i a b h = absurd (omega arith)
 within (x ∷ l) zero a b h = refl
 within (x ∷ l) (suc i) a b h = within l i a b (omega arith)

@@ -10,14 +10,15 @@ use crate::cost::Cost;
 use crate::cost::extend;
 use crate::cost::lesser;
 use crate::cost::no_cost;
+use net::limit;
 
 // Each of n nodes knows the way to itself.
-fn start(n: usize) -> [[Cost; 32]; 32]
+fn start(n: usize) -> [[Cost; limit::NODES]; limit::NODES]
     requires { ⌜ n ≤ mostNodes ⌝ }
     ensures { λ r. ⌜ r ≡ startSquare n ⌝ }
 {
     let unknown = no_cost();
-    let mut square = [[unknown; 32]; 32];
+    let mut square = [[unknown; limit::NODES]; limit::NODES];
     let mut i: usize = 0;
     while i < n {
         square[i][i] = Cost {
@@ -32,13 +33,13 @@ fn start(n: usize) -> [[Cost; 32]; 32]
 
 // One round: both interfaces of every link but `out` make their offers, for each destination.
 fn round(
-    square: [[Cost; 32]; 32],
+    square: [[Cost; limit::NODES]; limit::NODES],
     n: usize,
     low: &[u8],
     high: &[u8],
     weight: &[u32],
     out: usize,
-) -> [[Cost; 32]; 32]
+) -> [[Cost; limit::NODES]; limit::NODES]
     requires { ⌜ Accepted n (now low) (now high) (now weight) ⌝ }
     ensures { λ r. ⌜ r ≡ roundOf n (now (low .entry)) (now (high .entry)) (now (weight .entry)) out square ⌝ }
 {
@@ -68,7 +69,13 @@ fn round(
 }
 
 // The best paths between all pairs over the links other than `out`.
-pub fn square_of(n: usize, low: &[u8], high: &[u8], weight: &[u32], out: usize) -> [[Cost; 32]; 32]
+pub fn square_of(
+    n: usize,
+    low: &[u8],
+    high: &[u8],
+    weight: &[u32],
+    out: usize,
+) -> [[Cost; limit::NODES]; limit::NODES]
     requires { ⌜ Accepted n (now low) (now high) (now weight) ⌝ }
     ensures { λ r. ⌜ BestSquare (networkOf n (now (low .entry)) (now (high .entry)) (now (weight .entry))) out r ⌝ }
 {

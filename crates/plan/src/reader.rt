@@ -28,9 +28,9 @@ pub enum LinkRead {
 fn refused(number: u8, place: usize) -> Reading
     ensures { λ r. ⌜ r ≡ refusal number place ⌝ }
 {
-    let low = [0u8; 64];
-    let high = [0u8; 64];
-    let weight = [0u32; 64];
+    let low = [0u8; limit::LINKS];
+    let high = [0u8; limit::LINKS];
+    let weight = [0u32; limit::LINKS];
     let network = Network {
         nodes: 1,
         links: 0,
@@ -118,9 +118,9 @@ fn read_links(s: &[u8], n: usize, m: usize, first: usize) -> Reading
     requires { ⌜ (n ≤ mostNodes) × (m ≤ mostLinks) ⌝ }
     ensures { λ r. ⌜ r ≡ linksRead m (now (s .entry)) n m first 0 0 0 (replicate mostLinks 0) (replicate mostLinks 0) (replicate mostLinks 0) ⌝ }
 {
-    let mut low = [0u8; 64];
-    let mut high = [0u8; 64];
-    let mut weight = [0u32; 64];
+    let mut low = [0u8; limit::LINKS];
+    let mut high = [0u8; limit::LINKS];
+    let mut weight = [0u32; limit::LINKS];
     let mut low_before: usize = 0;
     let mut high_before: usize = 0;
     let mut at = first;
