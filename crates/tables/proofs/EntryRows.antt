@@ -1,0 +1,37 @@
+-- How a row of entries is written byte by byte: what stands before place d is done, and the rest of the row of entries follows from d
+-- on. One more byte moves the seam; at the end nothing is left.
+use Prim.Native.Nat.{ℕ, suc, _+_, _-_, _≤_, _<_}
+use mathlib.Core.Path.{_≡_, refl, sym, ap, _∙_}
+use mathlib.Core.List.{List, _++_, append-assoc, append-nil}
+use native.Mathlib.Nat.{sub-zero}
+use native.Mathlib.Numerals.{add-one}
+use native.Mathlib.Omega.{arith}
+use lib.ListN.{length, getD, take, set}
+use lib.Seq.{take-all, take-suc-set}
+use Rattle.paths.specs.Cost.{noCost}
+use Rattle.paths.specs.declared.cost.Cost.{Cost}
+use Rattle.paths.proofs.Shape.{within}
+use Rattle.tables.specs.Fill.{entryByte, entryRow}
+
+module _ (n : ℕ) (low high : List ℕ) (i : ℕ) (costs : List Cost) (row : List ℕ) where
+  -- what a row holds once the first d entries are written
+  abbrev pub writtenTo : ℕ → List ℕ
+  writtenTo d = take d row ++ entryRow (n - d) low high i d costs
+
+  pub row-begin : entryRow n low high i 0 costs ≡ writtenTo 0
+  row-begin = rw sub-zero
+
+  pub row-done : (d : ℕ) → length row ≡ n → n ≤ d → writtenTo d ≡ row
+  unfolding entryRow
+  row-done d long h =
+      let none : n - d ≡ 0 = omega arith in
+      rw (none, append-nil) (take-all d row (omega arith))
+
+pub row-on : (n : ℕ) (low high : List ℕ) (i : ℕ) (costs : List Cost) (row : List ℕ) (d byte : ℕ) (past : Cost)
+    → length row ≡ n → d < n → d < length costs → byte ≡ entryByte low high i d (getD costs d past)
+    → writtenTo n low high i costs row d ≡ writtenTo n low high i costs (set row d byte) (d + 1)
+unfolding entryRow
+row-on n low high i costs row d byte past long h inside e =
+    let more : n - d ≡ suc (n - suc d) = omega arith in
+    let is : entryByte low high i d (getD costs d noCost) ≡ byte = ap (entryByte low high i d) (within costs d noCost past inside) ∙ sym e in
+    rw (add-one, more, is, take-suc-set row d byte (omega arith), append-assoc) refl

@@ -1,0 +1,16 @@
+pub mod Tests
+pub mod KeyTest
+pub mod KeySteps
+pub mod KeyLoop
+pub mod EntryRows
+pub mod RowLookup
+pub mod Detours
+pub mod Forwarding
+pub mod Bytes
+pub mod Filling
+pub mod RowBytes
+pub mod Building
+pub mod Noting
+pub mod BuildVerdicts
+pub mod Determined
+pub mod Demand2

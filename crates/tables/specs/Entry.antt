@@ -1,0 +1,26 @@
+-- The three tables: which byte stands in which row (document 01, "Paths and tables").
+use Prim.Native.Nat.{ℕ, _+_, _*_, _<_}
+use mathlib.Core.Path.{_≡_}
+use mathlib.Core.List.{List}
+use lib.ListN.{length, getD, drop}
+use Rattle.graph.specs.Network.{Network, link, tail, head}
+use Rattle.graph.specs.Path.{All, But}
+use Rattle.graph.specs.Entries.{Free}
+use Rattle.net.specs.Entry.{EntryByte}
+
+-- the three kinds, by row and destination: a routing row is a node's, a forwarding or backwarding row an interface's
+abbrev pub RoutingByte : Network → ℕ → ℕ → ℕ → Type 0
+RoutingByte N i d = EntryByte N All i d
+
+abbrev pub ForwardingByte : Network → ℕ → ℕ → ℕ → Type 0
+ForwardingByte N h d = EntryByte N (Free N d h) (head N h) d
+
+abbrev pub BackwardingByte : Network → ℕ → ℕ → ℕ → Type 0
+BackwardingByte N h d = EntryByte N (But (link h)) (tail N h) d
+
+-- "Routing has one row of n bytes per node; forwarding and backwarding one row per interface, in interface order. When built, each row
+-- is filled as that part of the lent table; bytes beyond the last row stay."
+pub record Filled (n rows : ℕ) (Byte : ℕ → ℕ → ℕ → Type 0) (before after : List ℕ) : Type 0 where
+  pub same-length : length after ≡ length before
+  pub bytes : (row d : ℕ) → row < rows → d < n → Byte row d (getD after (row * n + d) 0)
+  pub beyond : drop (rows * n) after ≡ drop (rows * n) before

@@ -1,0 +1,321 @@
+// The builder of the three tables: one square over all links and one without each link. The square without a link gives the backwarding
+// rows of its two interfaces, and shows for which interfaces it is key: of the detours that avoid one key link each, the dearest
+// avoids all of them, so no other squares are needed.
+ghost use mathlib.Core.Path.{_≡_};
+ghost use Prim.Native.Nat.{ℕ, suc, _*_, _≤_, _<_};
+ghost use lib.ListN.{length, getD};
+ghost use Rattle.net.specs.Limits.{mostNodes};
+ghost use Rattle.net.specs.Check.{Accepted};
+ghost use Rattle.net.specs.Rows.{networkOf};
+ghost use Rattle.paths.specs.Cost.{noCost};
+ghost use Rattle.paths.specs.Square.{BestSquare};
+ghost use Rattle.tables.specs.Entry.{Filled, RoutingByte, ForwardingByte, BackwardingByte};
+ghost use Rattle.tables.specs.Fill.{aheadOf, dearerOf, noted, forwardCost, noDetours, Detours};
+ghost use Rattle.tables.specs.Build.{buildVerdict, BuildAnswer};
+use crate::entry::fill_row;
+use crate::key::is_key;
+use crate::key::reverse_of;
+use net::Interface;
+use net::Verdict;
+use net::check_network;
+use net::end_at;
+use net::head_of;
+use net::limit;
+use net::refusal;
+use paths::Cost;
+use paths::comes_before;
+use paths::known;
+use paths::square_of;
+
+// The node after i on its way to d; 0 where there is none.
+fn ahead_of(i: usize, d: usize, low: &[u8], high: &[u8], c: Cost) -> usize
+    ensures { λ r. ⌜ r ≡ aheadOf (now (low .entry)) (now (high .entry)) i d c ⌝ }
+{
+    if i == d {
+        return 0;
+    }
+    if known(c) {
+        return head_of(Interface(c.first as usize), low, high).0;
+    }
+    0
+}
+
+fn dearer(a: Cost, b: Cost) -> Cost
+    ensures { λ r. ⌜ r ≡ dearerOf a b ⌝ }
+{
+    if comes_before(a, b) {
+        return b;
+    }
+    a
+}
+
+// What is kept for i and d after one more link was tried.
+fn noted_cost(
+    i: usize,
+    d: usize,
+    kept: Cost,
+    whole: Cost,
+    after: Cost,
+    ahead: Cost,
+    one: Cost,
+    other: Cost,
+) -> Cost
+    ensures { λ r. ⌜ r ≡ noted i d kept whole after ahead one other ⌝ }
+{
+    if i == d {
+        return kept;
+    }
+    if is_key(
+        reverse_of(whole.first as usize),
+        whole,
+        after,
+        ahead,
+        one,
+        other,
+    ) {
+        return dearer(kept, after);
+    }
+    kept
+}
+
+// Tries link k, with the square without it, for every node and destination.
+fn note_link(
+    kept: [[Cost; limit::NODES]; limit::NODES],
+    all: [[Cost; limit::NODES]; limit::NODES],
+    without: [[Cost; limit::NODES]; limit::NODES],
+    n: usize,
+    low: &[u8],
+    high: &[u8],
+    weight: &[u32],
+    k: usize,
+) -> [[Cost; limit::NODES]; limit::NODES]
+    requires { ⌜ Accepted n (now low) (now high) (now weight) ⌝ }
+    requires { ⌜ k < length (now low) ⌝ }
+    requires { ⌜ BestSquare (networkOf n (now low) (now high) (now weight)) (length (now low)) all ⌝ }
+    requires { ⌜ BestSquare (networkOf n (now low) (now high) (now weight)) k without ⌝ }
+    requires { ⌜ Detours (networkOf n (now low) (now high) (now weight)) k all kept ⌝ }
+    ensures { λ r. ⌜ Detours (networkOf n (now (low .entry)) (now (high .entry)) (now (weight .entry))) (suc k) all r ⌝ }
+{
+    let x = end_at(low, k);
+    let y = end_at(high, k);
+    let mut next = kept;
+    let mut i: usize = 0;
+    while i < n {
+        let mut d: usize = 0;
+        while d < n {
+            let whole = all[i][d];
+            let j = ahead_of(i, d, low, high, whole);
+            let old = next[i][d];
+            let after = without[i][d];
+            let ahead = without[j][d];
+            let one = without[x][d];
+            let other = without[y][d];
+            next[i][d] = noted_cost(i, d, old, whole, after, ahead, one, other);
+            d += 1;
+        }
+        i += 1;
+    }
+    next
+}
+
+// Nothing tried yet: no detours.
+fn no_detours() -> [[Cost; limit::NODES]; limit::NODES]
+    ensures { λ r. ⌜ r ≡ noDetours ⌝ }
+{
+    let none = Cost {
+        sum: 0,
+        links: 0,
+        first: 0,
+    };
+    [[none; limit::NODES]; limit::NODES]
+}
+
+fn fill_routing(
+    table: &mut [u8],
+    n: usize,
+    low: &[u8],
+    high: &[u8],
+    weight: &[u32],
+    all: [[Cost; limit::NODES]; limit::NODES],
+)
+    requires { ⌜ Accepted n (now low) (now high) (now weight) ⌝ }
+    requires { ⌜ n * n ≤ length (now table) ⌝ }
+    requires { ⌜ BestSquare (networkOf n (now low) (now high) (now weight)) (length (now low)) all ⌝ }
+    ensures { λ r. ⌜ Filled n n (RoutingByte (networkOf n (now (low .entry)) (now (high .entry)) (now (weight .entry))))
+        (now (table .entry)) (now (table .exit)) ⌝ }
+{
+    let mut i: usize = 0;
+    while i < n {
+        let from = i * n;
+        let to = from + n;
+        let costs = all[i];
+        fill_row(&mut table[from..to], n, i, low, high, costs);
+        i += 1;
+    }
+}
+
+// The backwarding rows of both interfaces of each link, and the detours that the squares show on the way.
+fn fill_backwarding(
+    table: &mut [u8],
+    n: usize,
+    low: &[u8],
+    high: &[u8],
+    weight: &[u32],
+    all: [[Cost; limit::NODES]; limit::NODES],
+) -> [[Cost; limit::NODES]; limit::NODES]
+    requires { ⌜ Accepted n (now low) (now high) (now weight) ⌝ }
+    requires { ⌜ 2 * length (now low) * n ≤ length (now table) ⌝ }
+    requires { ⌜ BestSquare (networkOf n (now low) (now high) (now weight)) (length (now low)) all ⌝ }
+    ensures { λ r. ⌜ Filled n (2 * length (now (low .entry)))
+        (BackwardingByte (networkOf n (now (low .entry)) (now (high .entry)) (now (weight .entry))))
+        (now (table .entry)) (now (table .exit)) ⌝ }
+    ensures { λ r. ⌜ Detours (networkOf n (now (low .entry)) (now (high .entry)) (now (weight .entry))) (length (now (low .entry))) all r ⌝ }
+{
+    let links = low.len();
+    let mut kept = no_detours();
+    let mut k: usize = 0;
+    while k < links {
+        let x = end_at(low, k);
+        let y = end_at(high, k);
+        let without = square_of(n, low, high, weight, k);
+        let first = 2 * k * n;
+        let second = first + n;
+        let third = second + n;
+        let from_low = without[x];
+        let from_high = without[y];
+        fill_row(&mut table[first..second], n, x, low, high, from_low);
+        fill_row(&mut table[second..third], n, y, low, high, from_high);
+        let next = note_link(kept, all, without, n, low, high, weight, k);
+        kept = next;
+        k += 1;
+    }
+    kept
+}
+
+fn forward_cost(h: usize, whole: Cost, kept: Cost) -> Cost
+    ensures { λ r. ⌜ r ≡ forwardCost h whole kept ⌝ }
+{
+    if !known(whole) {
+        return whole;
+    }
+    if whole.first as usize != reverse_of(h) {
+        return whole;
+    }
+    if kept.sum == 0 {
+        return whole;
+    }
+    kept
+}
+
+// The costs by which the head of interface h forwards to each destination.
+fn forward_costs(
+    h: usize,
+    n: usize,
+    all: [Cost; limit::NODES],
+    kept: [Cost; limit::NODES],
+) -> [Cost; limit::NODES]
+    requires { ⌜ n ≤ mostNodes ⌝ }
+    ensures { λ r. ⌜ ((d : ℕ) → d < n → getD r d noCost ≡ forwardCost h (getD all d noCost) (getD kept d noCost)) ⌝ }
+{
+    let mut costs = all;
+    let mut d: usize = 0;
+    while d < n {
+        costs[d] = forward_cost(h, all[d], kept[d]);
+        d += 1;
+    }
+    costs
+}
+
+fn fill_forwarding(
+    table: &mut [u8],
+    n: usize,
+    low: &[u8],
+    high: &[u8],
+    weight: &[u32],
+    all: [[Cost; limit::NODES]; limit::NODES],
+    kept: [[Cost; limit::NODES]; limit::NODES],
+)
+    requires { ⌜ Accepted n (now low) (now high) (now weight) ⌝ }
+    requires { ⌜ 2 * length (now low) * n ≤ length (now table) ⌝ }
+    requires { ⌜ BestSquare (networkOf n (now low) (now high) (now weight)) (length (now low)) all ⌝ }
+    requires { ⌜ Detours (networkOf n (now low) (now high) (now weight)) (length (now low)) all kept ⌝ }
+    ensures { λ r. ⌜ Filled n (2 * length (now (low .entry)))
+        (ForwardingByte (networkOf n (now (low .entry)) (now (high .entry)) (now (weight .entry))))
+        (now (table .entry)) (now (table .exit)) ⌝ }
+{
+    let interfaces = 2 * low.len();
+    let mut h: usize = 0;
+    while h < interfaces {
+        let i = head_of(Interface(h), low, high).0;
+        let from = h * n;
+        let to = from + n;
+        let own = all[i];
+        let detours = kept[i];
+        let costs = forward_costs(h, n, own, detours);
+        fill_row(&mut table[from..to], n, i, low, high, costs);
+        h += 1;
+    }
+}
+
+fn build_verdict(
+    n: usize,
+    low: &[u8],
+    high: &[u8],
+    weight: &[u32],
+    routing: &[u8],
+    forwarding: &[u8],
+    backwarding: &[u8],
+) -> Verdict
+    ensures { λ r. ⌜ r ≡ buildVerdict n (now (low .entry)) (now (high .entry)) (now (weight .entry))
+        (now (routing .entry)) (now (forwarding .entry)) (now (backwarding .entry)) ⌝ }
+{
+    let verdict = check_network(n, low, high, weight);
+    if verdict.number != refusal::NONE {
+        return verdict;
+    }
+    let rows = 2 * low.len() * n;
+    if routing.len() < n * n {
+        return Verdict {
+            number: refusal::TABLE_LENGTH,
+            place: 0,
+        };
+    }
+    if forwarding.len() < rows {
+        return Verdict {
+            number: refusal::TABLE_LENGTH,
+            place: 0,
+        };
+    }
+    if backwarding.len() < rows {
+        return Verdict {
+            number: refusal::TABLE_LENGTH,
+            place: 0,
+        };
+    }
+    verdict
+}
+
+pub fn build_tables(
+    n: usize,
+    low: &[u8],
+    high: &[u8],
+    weight: &[u32],
+    routing: &mut [u8],
+    forwarding: &mut [u8],
+    backwarding: &mut [u8],
+) -> Verdict
+    ensures { λ r. ⌜ BuildAnswer n (now (low .entry)) (now (high .entry)) (now (weight .entry))
+        (now (routing .entry)) (now (forwarding .entry)) (now (backwarding .entry)) r
+        (now (routing .exit)) (now (forwarding .exit)) (now (backwarding .exit)) ⌝ }
+{
+    let verdict = build_verdict(n, low, high, weight, routing, forwarding, backwarding);
+    if verdict.number != refusal::NONE {
+        return verdict;
+    }
+    let links = low.len();
+    let all = square_of(n, low, high, weight, links);
+    fill_routing(routing, n, low, high, weight, all);
+    let kept = fill_backwarding(backwarding, n, low, high, weight, all);
+    fill_forwarding(forwarding, n, low, high, weight, all, kept);
+    verdict
+}

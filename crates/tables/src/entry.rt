@@ -1,0 +1,45 @@
+// One entry as a byte: a node; 254 where the destination is the deciding node itself (checked first); 255 where no path exists.
+// A row of n entries is filled as that part of the lent table.
+ghost use mathlib.Core.Path.{_≡_};
+ghost use Prim.Native.Nat.{_≤_};
+ghost use lib.ListN.{length};
+ghost use Rattle.net.specs.Limits.{mostNodes};
+ghost use Rattle.tables.specs.Fill.{entryByte, entryRow};
+use net::Interface;
+use net::entry;
+use net::head_of;
+use net::limit;
+use paths::Cost;
+use paths::known;
+
+// The entry of node i for d that a cost gives.
+pub fn entry_byte(i: usize, d: usize, low: &[u8], high: &[u8], c: Cost) -> u8
+    ensures { λ r. ⌜ r ≡ entryByte (now (low .entry)) (now (high .entry)) i d c ⌝ }
+{
+    if i == d {
+        return entry::HERE;
+    }
+    if known(c) {
+        return (head_of(Interface(c.first as usize), low, high).0 % 256) as u8;
+    }
+    entry::NOWHERE
+}
+
+// Fills one row: the entries of node i for the destinations 0 to n - 1.
+pub fn fill_row(
+    row: &mut [u8],
+    n: usize,
+    i: usize,
+    low: &[u8],
+    high: &[u8],
+    costs: [Cost; limit::NODES],
+)
+    requires { ⌜ (n ≤ mostNodes) × (length (now row) ≡ n) ⌝ }
+    ensures { λ r. ⌜ now (row .exit) ≡ entryRow n (now (low .entry)) (now (high .entry)) i 0 costs ⌝ }
+{
+    let mut d: usize = 0;
+    while d < n {
+        row[d] = entry_byte(i, d, low, high, costs[d]);
+        d += 1;
+    }
+}
