@@ -1,11 +1,136 @@
--- Every row marked P holds: the definitions are computed at each.
-use mathlib.Core.Path.{refl}
+-- Every row marked P holds. For each kind of row there is a definition that runs and that is proved to be what the row is about, of any
+-- accepted network (Computed, SameWalk). So the table holds if each row's numbers fit its network and if the answers computed for the
+-- rows are those that the rows give; both are computed for the whole table at once.
+use Prim.Native.Nat.{ℕ, _<_}
+use mathlib.Core.Bool.{Bool, true}
+use mathlib.Core.Path.{_≡_, refl}
+use mathlib.Core.List.{List, [], _∷_, map}
+use borrow.Author.Tests.{ltb-true, eqb-true}
+use lib.Dec.{ltb, eqb}
+use lib.ListN.{length}
+use Rattle.graph.specs.Network.{link, reverse, byDirection, tail, head}
+use Rattle.graph.specs.Path.{visits}
+use Rattle.graph.specs.Walk.{failedBy, around, stepBy, Ending, endsBy, crossing, walkFrom, walkOf}
+use Rattle.net.specs.Refusals.{accepted}
+use Rattle.net.specs.Check.{both, Accepted}
+use Rattle.net.specs.Check.{comesAfter, badEnds, badWeight, outOfOrder, linkFault, linksFrom, rowsDiffer, badNodeCount, checkNetwork}
+use Rattle.net.specs.Entry.{byteOf}
+use Rattle.net.proofs.Accepted.{check-accepts, well-formed}
 use Rattle.plan.specs.Number.{groupsOf, stored, groupsFrom, numberAt}
 use Rattle.plan.specs.Reader.{refusal, takeWeight, weightAt, takeDifference, differenceAt, takeLow, linkAt, takeLink, linksRead}
 use Rattle.plan.specs.Reader.{takeLinkCount, linkCountAt, takeNodeCount, readPlan}
-use Rattle.net.specs.Check.{comesAfter, badWeight, badNodeCount}
-use Rattle.sheet.specs.Sheet.{Row, Holds, Every, none, more, rows}
+use Rattle.plan.specs.declared.reader.Reading.{Reading}
+use Rattle.paths.specs.Cost.{noCost, isKnown, before, extended, lesserOf}
+use Rattle.paths.specs.Square.{cell, put, offer, offersOf, roundFrom, roundOf, roundsOf, startFrom, startSquare}
+use Rattle.tables.specs.Key.{hasLink, keyTest}
+use Rattle.tables.specs.Fill.{aheadOf, dearerOf, noted, forwardCost}
+use Rattle.tables.proofs.Tests.{both-true}
+use Rattle.sheet.specs.Sheet.{Sample, networkIn, courseIn, planA, squarePlan, pairPlan}
+use Rattle.sheet.specs.Sheet.{Row, routes, keys, forwards, backwards, walks, stores, refuses, Holds, Every, none, more, rows}
+use Rattle.sheet.proofs.Computed.{told, costBut, costAll, routed, backwarded, isKey, keysBelow, keptBelow, forwarded, computed}
+use Rattle.sheet.proofs.Computed.{routed-entry, keys-are, forwarded-entry, backwarded-entry, computed-built}
+use Rattle.sheet.proofs.SameWalk.{same-walk}
+
+-- the check accepts the network, d is a node of it, and a number is below a count
+unfoldable pub within : Sample → ℕ → ℕ → ℕ → Bool
+within P d a count =
+    both (eqb (checkNetwork (P .nodes) (P .low) (P .high) (P .weight) .number) accepted) (both (ltb d (P .nodes)) (ltb a count))
+
+-- the row's network is accepted, and the row names nodes and interfaces of it
+unfoldable pub fits : Row → Bool
+fits (routes P i d byte) = within P d i (P .nodes)
+fits (keys P h d set) = within P d (link h) (length (P .low))
+fits (forwards P h d byte) = within P d (link h) (length (P .low))
+fits (backwards P h d byte) = within P d (link h) (length (P .low))
+fits (walks P j trace ending) = within P (j .destination) (j .source) (P .nodes)
+fits (stores v bytes) = true
+fits (refuses s number place) = true
+
+unfoldable pub allFit : List Row → Bool
+allFit [] = true
+allFit (r ∷ rest) = both (fits r) (allFit rest)
+
+-- what a row gives as the answer to its question
+pub data Answer : Type 0 where
+  value : ℕ → Answer
+  course : List ℕ → Ending → Answer
+  encoded : List ℕ → Answer
+  read : Reading → Answer
+
+unfoldable pub given : Row → Answer
+given (routes P i d byte) = value byte
+given (keys P h d set) = value set
+given (forwards P h d byte) = value byte
+given (backwards P h d byte) = value byte
+given (walks P j trace ending) = course trace ending
+given (stores v bytes) = encoded bytes
+given (refuses s number place) = read (refusal number place)
+
+-- and what is computed for it
+unfoldable pub answered : Row → Answer
+answered (routes P i d byte) = value (byteOf (networkIn P) (routed P d i))
+answered (keys P h d set) = value (keysBelow P d h (length (P .low)))
+answered (forwards P h d byte) = value (byteOf (networkIn P) (forwarded P d h))
+answered (backwards P h d byte) = value (byteOf (networkIn P) (backwarded P d h))
+answered (walks P j trace ending) =
+    let c = courseIn P j (computed P (j .destination)) in
+    course (visits (networkIn P) (j .source) (c .crossed)) (c .ending)
+answered (stores v bytes) = encoded (stored v)
+answered (refuses s number place) = read (readPlan s)
+
+record Within (P : Sample) (d a count : ℕ) : Type 0 where
+  network : Accepted (P .nodes) (P .low) (P .high) (P .weight)
+  destination : d < P .nodes
+  below : a < count
+
+within-true : (P : Sample) (d a count : ℕ) → within P d a count ≡ true → Within P d a count
+unfolding within
+within-true P d a count fit =
+    let (checked, numbers) = both-true (eqb (checkNetwork (P .nodes) (P .low) (P .high) (P .weight) .number) accepted) _ .0 fit in
+    let (node, other) = both-true (ltb d (P .nodes)) _ .0 numbers in
+    record { network = check-accepts _ _ _ _ (eqb-true _ _ checked); destination = ltb-true _ _ node; below = ltb-true _ _ other }
+
+-- a row that fits, and gives what is computed, holds
+row-holds : (r : Row) → fits r ≡ true → answered r ≡ given r → Holds r
+unfolding Holds fits answered given
+row-holds (routes P i d byte) fit same =
+    let t = within-true P d i (P .nodes) fit in
+    record { hop = routed P d i; entry = routed-entry P (t .network) d (t .destination) i (t .below); is = cc }
+row-holds (keys P h d set) fit same =
+    let t = within-true P d (link h) (length (P .low)) fit in
+    let is : set ≡ keysBelow P d h (length (P .low)) = cc in
+    rw is (keys-are P (t .network) d (t .destination) h (t .below))
+row-holds (forwards P h d byte) fit same =
+    let t = within-true P d (link h) (length (P .low)) fit in
+    record { hop = forwarded P d h; entry = forwarded-entry P (t .network) d (t .destination) h (t .below); is = cc }
+row-holds (backwards P h d byte) fit same =
+    let t = within-true P d (link h) (length (P .low)) fit in
+    record { hop = backwarded P d h; entry = backwarded-entry P (t .network) d (t .destination) h (t .below); is = cc }
+row-holds (walks P j trace ending) fit same =
+    let t = within-true P (j .destination) (j .source) (P .nodes) fit in
+    λ T built.
+    let W = well-formed (P .nodes) (P .low) (P .high) (P .weight) (t .network) in
+    let also = computed-built P (t .network) (j .destination) (t .destination) in
+    rw (same-walk (networkIn P) W (failedBy (j .failure)) (j .destination) T (computed P (j .destination)) built also
+    (j .limit) (j .source) (t .below))
+    (record { visited = cc; ended = cc })
+row-holds (stores v bytes) fit same = cc
+row-holds (refuses s number place) fit same = cc
+
+all-hold : (table : List Row) → allFit table ≡ true → map answered table ≡ map given table → Every Holds table
+unfolding allFit
+all-hold [] fit same = none
+all-hold (r ∷ rest) fit same =
+    let (here, others) = both-true (fits r) _ .0 fit in
+    more (row-holds r here (cc)) (all-hold rest others (cc))
 
 pub bench-sheet : Every Holds rows
-unfolding rows Holds groupsOf stored groupsFrom numberAt refusal takeWeight weightAt takeDifference differenceAt takeLow linkAt takeLink linksRead takeLinkCount linkCountAt takeNodeCount readPlan comesAfter badWeight badNodeCount
-bench-sheet = more refl (more refl (more refl (more refl none)))
+unfolding rows allFit fits within given answered
+    planA squarePlan pairPlan comesAfter badEnds badWeight outOfOrder linkFault linksFrom rowsDiffer badNodeCount checkNetwork
+    link reverse byDirection tail head visits failedBy around stepBy endsBy crossing walkFrom walkOf byteOf
+    noCost isKnown before extended lesserOf cell put offer offersOf roundFrom roundOf roundsOf startFrom startSquare
+    hasLink keyTest aheadOf dearerOf noted forwardCost
+    told costBut costAll routed backwarded isKey keysBelow keptBelow forwarded computed
+    groupsOf stored groupsFrom numberAt refusal takeWeight weightAt takeDifference differenceAt takeLow linkAt takeLink linksRead
+    takeLinkCount linkCountAt takeNodeCount readPlan
+bench-sheet = all-hold rows refl refl

@@ -1,17 +1,71 @@
--- The bench sheet of document 01: all its rows marked P in one table, and what it means that a row holds.
+-- The bench sheet of document 01: all its rows marked P in one table, and what it means that a row holds. A row says something of the
+-- definitions, not of a program: the entries and key links are those that the papers define, and a walk is told of any tables that hold
+-- the defined entries (proofs/Computed.antt computes such tables).
 use Prim.Native.Nat.{ℕ}
 use mathlib.Core.Path.{_≡_}
 use mathlib.Core.List.{List, [], _∷_}
+use mathlib.Core.Option.{Option, none as no-link, some as one-link}
+use lib.ListN.{length}
+use Rattle.graph.specs.Network.{Network}
+use Rattle.graph.specs.Path.{visits}
+use Rattle.graph.specs.Set.{SetOf}
+use Rattle.graph.specs.Entries.{KeyLink}
+use Rattle.graph.specs.Walk.{Tables, failedBy, Ending, delivered, dropped, exhausted, Course, walkOf}
+use Rattle.graph.specs.Demand3.{BuiltEntries}
+use Rattle.net.specs.Limits.{reportHops}
+use Rattle.net.specs.Rows.{networkOf}
 use Rattle.plan.specs.Number.{stored}
 use Rattle.plan.specs.Reader.{readPlan, refusal}
+use Rattle.tables.specs.Entry.{RoutingByte, ForwardingByte, BackwardingByte}
+
+-- a network of the sheet: its node count and three rows
+pub record Sample : Type 0 where
+  pub nodes : ℕ
+  pub low : List ℕ
+  pub high : List ℕ
+  pub weight : List ℕ
+
+abbrev pub networkIn : Sample → Network
+networkIn P = networkOf (P .nodes) (P .low) (P .high) (P .weight)
+
+-- one walk: which link has failed, source, destination and hop limit
+pub record Journey : Type 0 where
+  pub failure : Option ℕ
+  pub source : ℕ
+  pub destination : ℕ
+  pub limit : ℕ
+
+abbrev pub courseIn : Sample → Journey → Tables → Course
+courseIn P j T = walkOf (networkIn P) (failedBy (j .failure)) T (j .destination) (j .limit) (j .source)
 
 pub data Row : Type 0 where
+  -- the routing entry of the node for the destination is this byte
+  routes : Sample → ℕ → ℕ → ℕ → Row
+  -- the key links of the interface for the destination are this set
+  keys : Sample → ℕ → ℕ → ℕ → Row
+  -- the forwarding entry of the interface for the destination is this byte
+  forwards : Sample → ℕ → ℕ → ℕ → Row
+  -- the backwarding entry of the interface for the destination is this byte
+  backwards : Sample → ℕ → ℕ → ℕ → Row
+  -- the walk visits these nodes, its source first, so one more than it has hops, and ends so
+  walks : Sample → Journey → List ℕ → Ending → Row
   -- the number is stored as these bytes
   stores : ℕ → List ℕ → Row
   -- these bytes, as a plan, get this refusal number at this place
   refuses : List ℕ → ℕ → ℕ → Row
 
+-- the course of a walk, as the nodes visited and the ending
+pub record Visits (N : Network) (source : ℕ) (c : Course) (trace : List ℕ) (ending : Ending) : Type 0 where
+  pub visited : visits N source (c .crossed) ≡ trace
+  pub ended : c .ending ≡ ending
+
 unfoldable pub Holds : Row → Type 0
+Holds (routes P i d byte) = RoutingByte (networkIn P) i d byte
+Holds (keys P h d set) = SetOf (length (P .low)) (KeyLink (networkIn P) d h) set
+Holds (forwards P h d byte) = ForwardingByte (networkIn P) h d byte
+Holds (backwards P h d byte) = BackwardingByte (networkIn P) h d byte
+Holds (walks P j trace ending) =
+    (T : Tables) → BuiltEntries (networkIn P) (j .destination) T → Visits (networkIn P) (j .source) (courseIn P j T) trace ending
 Holds (stores v bytes) = stored v ≡ bytes
 Holds (refuses s number place) = readPlan s ≡ refusal number place
 
@@ -19,11 +73,56 @@ pub data Every (P : Row → Type 0) : List Row → Type 0 where
   none : Every P []
   more : {r : Row} {rows : List Row} → P r → Every P rows → Every P (r ∷ rows)
 
--- "300 is stored as AC 02. 65,535 is FF FF 03; 80 80 04 as weight is refusal 6; 80 00 is 2." The weight stands in a plan of two nodes
--- and one link, at byte 4; 80 00 stands as a node count.
+-- "Plan A: weights 0-1 1, 0-2 4, 0-3 9, 1-2 1, 2-3 1." The links are numbered 0 to 4 in this order, and interface 2k is link k entered
+-- from its low end.
+unfoldable pub planA : Sample
+planA =
+    record {
+      nodes = 4;
+      low = 0 ∷ 0 ∷ 0 ∷ 1 ∷ 2 ∷ [];
+      high = 1 ∷ 2 ∷ 3 ∷ 2 ∷ 3 ∷ [];
+      weight = 1 ∷ 4 ∷ 9 ∷ 1 ∷ 1 ∷ [];
+    }
+
+-- "square 0-1, 0-2, 1-3, 2-3, all weight 1"
+unfoldable pub squarePlan : Sample
+squarePlan =
+    record { nodes = 4; low = 0 ∷ 0 ∷ 1 ∷ 2 ∷ []; high = 1 ∷ 2 ∷ 3 ∷ 3 ∷ []; weight = 1 ∷ 1 ∷ 1 ∷ 1 ∷ [] }
+
+-- "two nodes, their one link"
+unfoldable pub pairPlan : Sample
+pairPlan = record { nodes = 2; low = 0 ∷ []; high = 1 ∷ []; weight = 1 ∷ [] }
+
+-- from s to d with one link failed, and with the report's hop limit, which no delivered packet of these networks uses up
+abbrev pub failing : ℕ → ℕ → ℕ → Journey
+failing link s d = record { failure = one-link link; source = s; destination = d; limit = reportHops }
+
 unfoldable pub rows : List Row
 rows =
-    stores 300 (0xAC ∷ 0x02 ∷ [])
+    -- "routing entry of 0 for 3 is 1."
+    routes planA 0 3 1
+    -- "key links of 1 to 0 for 3 are links 3 and 4 (set value 24)."
+    ∷ keys planA 1 3 24
+    -- "forwarding 1 to 0 for 3 is 3; P: forwarding 2 to 0 for 3 is 1."
+    ∷ forwards planA 1 3 3
+    ∷ forwards planA 3 3 1
+    -- "backwarding 0 to 1 for 3 is 2; P: backwarding 1 to 0 for 3 is 2."
+    ∷ backwards planA 0 3 2
+    ∷ backwards planA 1 3 2
+    -- "0 to 3, link 1-2 failed: 0 1 0 3, though 0 2 3 would be cheaper after 0."
+    ∷ walks planA (failing 3 0 3) (0 ∷ 1 ∷ 0 ∷ 3 ∷ []) delivered
+    -- "0 to 3, link 2-3 failed: 0 1 2 1 0 3, 5 hops, which is 2n - 3. With hop limit 4: ending 3, trace 0 1 2 1 0."
+    ∷ walks planA (failing 4 0 3) (0 ∷ 1 ∷ 2 ∷ 1 ∷ 0 ∷ 3 ∷ []) delivered
+    ∷ walks planA (record { failure = one-link 4; source = 0; destination = 3; limit = 4 }) (0 ∷ 1 ∷ 2 ∷ 1 ∷ 0 ∷ []) exhausted
+    -- "source equals destination: delivered, 0 hops."
+    ∷ walks planA (record { failure = no-link; source = 0; destination = 0; limit = reportHops }) (0 ∷ []) delivered
+    -- "square 0-1, 0-2, 1-3, 2-3, all weight 1: routing entry of 0 for 3 is 1."
+    ∷ routes squarePlan 0 3 1
+    -- "two nodes, their one link failed: ending 2, 0 hops."
+    ∷ walks pairPlan (failing 0 0 1) (0 ∷ []) dropped
+    -- "300 is stored as AC 02. 65,535 is FF FF 03; 80 80 04 as weight is refusal 6; 80 00 is 2." The weight stands in a plan of two
+    -- nodes and one link, at byte 4; 80 00 stands as a node count.
+    ∷ stores 300 (0xAC ∷ 0x02 ∷ [])
     ∷ stores 65535 (0xFF ∷ 0xFF ∷ 0x03 ∷ [])
     ∷ refuses (0x02 ∷ 0x01 ∷ 0x00 ∷ 0x01 ∷ 0x80 ∷ 0x80 ∷ 0x04 ∷ []) 6 4
     ∷ refuses (0x80 ∷ 0x00 ∷ []) 2 0

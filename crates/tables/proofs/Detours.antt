@@ -159,7 +159,7 @@ module _ (n : ℕ) (low high weight : List ℕ) where
   module _ (W : WellFormed (networkOf n low high weight)) {k : ℕ} (present : k < length low) (all without : List (List Cost))
       (whole : BestSquare (networkOf n low high weight) (length low) all) (less : BestSquare (networkOf n low high weight) k without) where
     -- one link more, for one node and destination
-    noted-dearest : (i d : ℕ) → i < n → d < n → i ≢ d → cell all i d .sum < unknown → (c : Cost)
+    pub noted-dearest : (i d : ℕ) → i < n → d < n → i ≢ d → cell all i d .sum < unknown → (c : Cost)
         → Dearest (networkOf n low high weight) i d (reverse (cell all i d .first)) k c
         → Dearest (networkOf n low high weight) i d (reverse (cell all i d .first)) (suc k)
         (noted i d c (cell all i d) (cell without i d) (cell without (aheadOf low high i d (cell all i d)) d)

@@ -1,13 +1,13 @@
 -- Filling a table row by row. With `rows` rows filled, the next row put in its place leaves the rows before it and the bytes beyond it;
--- and the filled rows with the bytes beyond them determine the table. A row itself is filled byte by byte.
+-- and the filled rows with the bytes beyond them determine the table. A row has a byte for each destination.
 use Prim.Native.Nat.{ℕ, zero, suc, _+_, _*_, _-_, _/_, _%_, _≤_, _<_}
 use mathlib.Core.Path.{_≡_, refl, sym, ap, _∙_}
-use mathlib.Core.List.{List, [], _∷_, _++_, append-assoc, append-nil}
+use mathlib.Core.List.{List, _++_, append-assoc}
 use native.Mathlib.Nat.{suc-mul, mul-le-mul-right, div-add-mod', div-lt-iff-lt-mul, mod-lt, add-zero, zero-add}
 use native.Mathlib.Decide.{ℕ-discrete, decLt}
 use native.Mathlib.Omega.{arith}
-use lib.ListN.{length, getD, take, drop, set, length-append, length-drop, List·getD-append, drop-of-length-le}
-use lib.Seq.{length-take-le, getD-take, getD-drop, getD-append-add, drop-at, drop-drop, drop-cons, set-at, ext-getD}
+use lib.ListN.{length, getD, take, drop, length-append, length-drop, List·getD-append}
+use lib.Seq.{length-take-le, getD-take, getD-drop, getD-append-add, drop-at, drop-drop, ext-getD}
 use Rattle.paths.specs.Cost.{noCost}
 use Rattle.paths.specs.declared.cost.Cost.{Cost}
 use Rattle.tables.specs.Entry.{Filled}
@@ -98,24 +98,3 @@ module _ (low high : List ℕ) (i : ℕ) (costs : List Cost) where
 
   pub entry-row-at : {n d : ℕ} → d < n → getD (entryRow n low high i 0 costs) d 0 ≡ entryByte low high i d (getD costs d noCost)
   entry-row-at {n} {d} h = rw (zero-add d) at (entry-row-from n 0 d h)
-
-  -- one destination more
-  pub entry-row-last : (left d : ℕ) → entryRow (suc left) low high i d costs
-      ≡ entryRow left low high i d costs ++ (entryByte low high i (d + left) (getD costs (d + left) noCost) ∷ [])
-  unfolding entryRow
-  entry-row-last zero d = rw (add-zero d)
-  entry-row-last (suc left) d =
-      let place : suc d + left ≡ d + suc left = omega arith in
-      rw (← place) (ap (λ (r : List ℕ). entryByte low high i d (getD costs d noCost) ∷ r) (entry-row-last left (suc d)))
-
-  -- a loop that writes the row byte by byte: what is done stands before what the row was lent with
-  pub entry-row-put : (row : List ℕ) (d : ℕ) → d < length row
-      → set (entryRow d low high i 0 costs ++ drop d row) d (entryByte low high i d (getD costs d noCost))
-      ≡ entryRow (suc d) low high i 0 costs ++ drop (suc d) row
-  entry-row-put row d h =
-      let last = rw (zero-add d) at (entry-row-last d 0) in
-      rw (last, append-assoc, drop-cons row d 0 h)
-      (set-at (entryRow d low high i 0 costs) (getD row d 0) (drop (suc d) row) _ d (entry-row-length d 0))
-
-  pub entry-row-done : (row : List ℕ) (n : ℕ) → length row ≡ n → entryRow n low high i 0 costs ++ drop n row ≡ entryRow n low high i 0 costs
-  entry-row-done row n e = rw (drop-of-length-le row {i = n} (omega arith)) (append-nil _)

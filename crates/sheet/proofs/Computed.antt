@@ -1,0 +1,180 @@
+-- The entries and the key links by computation: definitions that run, each proved to be what the papers define, of any accepted network.
+-- The squares of costs are those of the rounds, so each cell is the cost of the best path over the links left in. The first interface
+-- of that path is the entry; the test on costs tells the key links one by one; and a packet is forwarded by the dearest of the detours
+-- that avoid one key link.
+use Prim.Native.Nat.{ℕ, zero, suc, _-_, _^_, _≤_, _<_}
+use mathlib.Core.Bool.{Bool, true, false, not}
+use mathlib.Core.Path.{_≡_, refl}
+use mathlib.Core.Logic.{_≢_, _↔_}
+use mathlib.Core.List.{List}
+use native.Mathlib.Decide.{ℕ-discrete}
+use native.Mathlib.Omega.{arith}
+use borrow.Author.Tests.{ne-eqb, eq-eqb}
+use lib.Bits.{bitOr}
+use lib.Dec.{eqb}
+use lib.ListN.{length, getD}
+use Rattle.graph.specs.Network.{Network, WellFormed, link, reverse, tail, head}
+use Rattle.graph.specs.Path.{All}
+use Rattle.graph.specs.Set.{SetOf}
+use Rattle.graph.specs.Entries.{Hop, here, onward, nowhere, Entry, at-destination}
+use Rattle.graph.specs.Entries.{KeyLink, RoutingEntry, ForwardingEntry, BackwardingEntry}
+use Rattle.graph.specs.Walk.{Tables}
+use Rattle.graph.specs.Demand3.{BuiltEntries}
+use Rattle.graph.proofs.Interfaces.{head-node, tail-node}
+use Rattle.graph.proofs.Sets.{set-start, set-taken, set-passed, set-whole}
+use Rattle.net.specs.Check.{pick, both, Accepted}
+use Rattle.net.proofs.Accepted.{well-formed}
+use Rattle.paths.specs.Cost.{unknown, isKnown}
+use Rattle.paths.specs.Square.{cell, roundsOf, startSquare, Shows, BestSquare}
+use Rattle.paths.specs.declared.cost.Cost.{Cost}
+use Rattle.paths.proofs.Cells.{hereCost}
+use Rattle.paths.proofs.BestSquare.{rounds-best, shows-all}
+use Rattle.paths.proofs.Shown.{known-true, known-false, Tells, leads, leads-nowhere, shown-tells}
+use Rattle.tables.specs.Key.{keyTest}
+use Rattle.tables.specs.Fill.{aheadOf, noted, forwardCost, Dearest, no-key}
+use Rattle.tables.proofs.KeyTest.{key-test-by-squares, key-not-at-destination}
+use Rattle.tables.proofs.Detours.{noted-dearest}
+use Rattle.tables.proofs.Forwarding.{forward-tells}
+use Rattle.tables.proofs.Tests.{false-true}
+use Rattle.sheet.specs.Sheet.{Sample, networkIn}
+
+-- the entry of i for d that a cost tells
+unfoldable pub told : ℕ → ℕ → Cost → Hop
+told i d c = pick (eqb i d) here (pick (isKnown c) (onward (c .first)) nowhere)
+
+module _ (P : Sample) where
+  -- the costs without link `out`; over all links, where the number is no link's
+  abbrev pub squareBut : ℕ → List (List Cost)
+  squareBut out = roundsOf (P .nodes - 1) (P .nodes) (P .low) (P .high) (P .weight) out (startSquare (P .nodes))
+
+  unfoldable pub costBut : ℕ → ℕ → ℕ → Cost
+  costBut out i d = cell (squareBut out) i d
+
+  unfoldable pub costAll : ℕ → ℕ → Cost
+  costAll i d = costBut (length (P .low)) i d
+
+  unfoldable pub routed : ℕ → ℕ → Hop
+  routed d i = told i d (costAll i d)
+
+  unfoldable pub backwarded : ℕ → ℕ → Hop
+  backwarded d h = told (tail (networkIn P) h) d (costBut (link h) (tail (networkIn P) h) d)
+
+  -- link k is a key link of interface h
+  unfoldable pub isKey : ℕ → ℕ → ℕ → Bool
+  isKey d h k =
+      both (not (eqb (head (networkIn P) h) d))
+      (keyTest h (costAll (head (networkIn P) h) d) (costBut k (head (networkIn P) h) d) (costBut k (tail (networkIn P) h) d)
+      (costBut k (getD (P .low) k 0) d) (costBut k (getD (P .high) k 0) d))
+
+  -- the key links below a number, as a set
+  unfoldable pub keysBelow : ℕ → ℕ → ℕ → ℕ
+  keysBelow d h zero = 0
+  keysBelow d h (suc k) = pick (isKey d h k) (bitOr (keysBelow d h k) (2 ^ k)) (keysBelow d h k)
+
+  -- the dearest detour of i around one of the links below a number
+  unfoldable pub keptBelow : ℕ → ℕ → ℕ → Cost
+  keptBelow i d zero = hereCost
+  keptBelow i d (suc k) =
+      noted i d (keptBelow i d k) (costAll i d) (costBut k i d) (costBut k (aheadOf (P .low) (P .high) i d (costAll i d)) d)
+      (costBut k (getD (P .low) k 0) d) (costBut k (getD (P .high) k 0) d)
+
+  unfoldable pub forwarded : ℕ → ℕ → Hop
+  forwarded d h =
+      told (head (networkIn P) h) d
+      (forwardCost h (costAll (head (networkIn P) h) d) (keptBelow (head (networkIn P) h) d (length (P .low))))
+
+  -- all entries for one destination
+  unfoldable pub computed : ℕ → Tables
+  computed d = record { routing = routed d; forwarding = forwarded d; backwarding = backwarded d }
+
+module _ (N : Network) {X : ℕ → Type 0} {i d : ℕ} (c : Cost) where
+  told-here : i ≡ d → Entry N X i d (told i d c)
+  unfolding told
+  told-here e = rw (eq-eqb i d e) (at-destination e)
+
+  told-away : i ≢ d → Tells N X i d c → Entry N X i d (told i d c)
+  unfolding told
+  told-away away (leads h entry) = rw (ne-eqb i d away, known-true c .1 h) entry
+  told-away away (leads-nowhere h entry) = rw (ne-eqb i d away, known-false c .1 h) entry
+
+  told-shown : WellFormed N → Shows N X i d c → Entry N X i d (told i d c)
+  told-shown W shown = elim (ℕ-discrete i d) [ yes e ↦ told-here e | no away ↦ told-away away (shown-tells N W shown away) ]
+
+module _ (P : Sample) (A : Accepted (P .nodes) (P .low) (P .high) (P .weight)) where
+  abbrev N : Network
+  N = networkIn P
+
+  W : WellFormed N
+  W = well-formed (P .nodes) (P .low) (P .high) (P .weight) A
+
+  -- the costs are the cells of best squares
+  square-best : (out : ℕ) → BestSquare N out (squareBut P out)
+  square-best out = rounds-best A out (P .nodes - 1) (omega (arith, A .some-node))
+
+  shown-all : {i d : ℕ} → i < P .nodes → d < P .nodes → Shows N All i d (costAll P i d)
+  unfolding costAll costBut
+  shown-all {i} {d} node destination =
+      shows-all N W (length (P .low)) (omega arith) (square-best (length (P .low)) i d node destination)
+
+  module _ (d : ℕ) (destination : d < P .nodes) where
+    pub routed-entry : (i : ℕ) → i < P .nodes → RoutingEntry N d i (routed P d i)
+    unfolding routed
+    routed-entry i node = told-shown N _ W (shown-all node destination)
+
+    module _ (h : ℕ) (up : link h < length (P .low)) where
+      pub backwarded-entry : BackwardingEntry N d h (backwarded P d h)
+      unfolding backwarded costBut
+      backwarded-entry = told-shown N _ W (square-best (link h) (tail N h) d (tail-node N W h up) destination)
+
+      -- the test with which the code finds key links, made away from the destination
+      key-told : (k : ℕ) → k < length (P .low) → (isKey P d h k ≡ true) ↔ KeyLink N d h k
+      unfolding isKey costAll costBut
+      key-told k present =
+          elim (ℕ-discrete (head N h) d) [
+            | yes e ↦ rw (eq-eqb (head N h) d e) (λ t. absurd (false-true t), λ key. absurd (key-not-at-destination N W e key))
+            | no away ↦ rw (ne-eqb (head N h) d away)
+                (key-test-by-squares (P .nodes) (P .low) (P .high) (P .weight) W (squareBut P (length (P .low))) (squareBut P k) present
+                (square-best (length (P .low))) (square-best k) h up refl refl away destination)
+          ]
+
+      -- one link more was tried
+      keys-more : (k set : ℕ) → k < length (P .low) → (test : Bool) → (test ≡ true) ↔ KeyLink N d h k
+          → SetOf (length (P .low)) (λ l. (l < k) × KeyLink N d h l) set
+          → SetOf (length (P .low)) (λ l. (l < suc k) × KeyLink N d h l) (pick test (bitOr set (2 ^ k)) set)
+      keys-more k set present true tells before = set-taken present (tells .0 refl) before
+      keys-more k set present false tells before = set-passed (λ key. false-true (tells .1 key)) before
+
+      keys-passed : (k : ℕ) → k ≤ length (P .low) → SetOf (length (P .low)) (λ l. (l < k) × KeyLink N d h l) (keysBelow P d h k)
+      unfolding keysBelow
+      keys-passed zero within = set-start
+      keys-passed (suc k) within =
+          keys-more k (keysBelow P d h k) (omega arith) (isKey P d h k) (key-told k (omega arith)) (keys-passed k (omega arith))
+
+      pub keys-are : SetOf (length (P .low)) (KeyLink N d h) (keysBelow P d h (length (P .low)))
+      keys-are = set-whole (keys-passed (length (P .low)) (omega arith))
+
+    -- the links below k were tried
+    kept-dearest : {i : ℕ} → i < P .nodes → i ≢ d → costAll P i d .sum < unknown → (k : ℕ) → k ≤ length (P .low)
+        → Dearest N i d (reverse (costAll P i d .first)) k (keptBelow P i d k)
+    unfolding keptBelow costAll costBut
+    kept-dearest node away known zero within = no-key refl (λ l below key. omega arith)
+    kept-dearest {i} node away known (suc k) within =
+        noted-dearest (P .nodes) (P .low) (P .high) (P .weight) W (omega arith) (squareBut P (length (P .low))) (squareBut P k)
+        (square-best (length (P .low))) (square-best k) i d node destination away known (keptBelow P i d k)
+        (kept-dearest node away known k (omega arith))
+
+    pub forwarded-entry : (h : ℕ) → link h < length (P .low) → ForwardingEntry N d h (forwarded P d h)
+    unfolding forwarded
+    forwarded-entry h up =
+        let node = head-node N W h up in
+        elim (ℕ-discrete (head N h) d) [
+          | yes e ↦ told-here N _ e
+          | no away ↦ told-away N _ away
+              (forward-tells N W h away _ _ (shown-all node destination)
+              (λ known. kept-dearest node away known (length (P .low)) (omega arith)))
+        ]
+
+    -- so the computed tables are built
+    pub computed-built : BuiltEntries N d (computed P d)
+    unfolding computed
+    computed-built = record { routing = routed-entry; forwarding = forwarded-entry; backwarding = backwarded-entry }
