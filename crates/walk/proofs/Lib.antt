@@ -1,0 +1,12 @@
+pub mod Answers
+pub mod Asking
+pub mod Below
+pub mod Courses
+pub mod Lookup
+pub mod Stepping
+pub mod Trails
+pub mod Verdicts
+pub mod Passing
+pub mod Built
+pub mod Demand3Built
+pub mod Determined

@@ -1,0 +1,99 @@
+-- The loop's invariant: the map says of the links passed what `neighbours` says of all.
+use Prim.Native.Nat.{_≤_, _-_}
+use mathlib.Core.Path.{_≡_}
+use native.Mathlib.Omega.{arith}
+use borrow.Author.Needs.{needs}
+use lib.ListN.{length}
+use Rattle.walk.proofs.Lookup.{NeighboursUpTo, neighbours-start, neighbours-more, neighbours-end}
+use Rattle.walk.proofs.lent.neighbours.Statement.{statement}
+use Rattle.walk.proofs.lent.neighbours.Tie as tie
+
+abbrev Inv-loop : tie.InvT-loop
+Inv-loop n low high weight map₀ links k₀ map k = (k ≤ links) × NeighboursUpTo k low high map
+
+abbrev μ-loop : tie.MeasureT-loop
+μ-loop n low high weight map₀ links k₀ map k = links - k
+
+loop-holds : tie.Need-loop-holds Inv-loop μ-loop
+loop-holds c = (search needs, neighbours-start _ _)
+
+end-at-requires : tie.Need-end-at-requires Inv-loop μ-loop
+end-at-requires c κs = search needs
+
+end-at-requires-2 : tie.Need-end-at-requires-2 Inv-loop μ-loop
+end-at-requires-2 c κs = search needs
+
+mul-map : tie.Need-mul-map Inv-loop μ-loop
+mul-map c = omega (arith, c .before .before .before .before .before .before .before .pre .few-links)
+
+cast-map : tie.Need-cast-map Inv-loop μ-loop
+cast-map c = omega (arith, c .before .before .before .before .before .before .before .pre .few-links)
+
+mul-map-2 : tie.Need-mul-map-2 Inv-loop μ-loop
+mul-map-2 c = omega (arith, c .end-at2 .ensures, c .before .end-at .ensures, c .before .before .before .before .before .before .before .pre .few-nodes, c .before .before .before .before .before .before .before .pre .joins (c .before .before .before .loop .k) (c .before .before .loop-test .taken))
+
+add-map : tie.Need-add-map Inv-loop μ-loop
+add-map c = omega (arith, c .end-at2 .ensures, c .before .end-at .ensures, c .before .before .before .before .before .before .before .pre .few-nodes, c .before .before .before .before .before .before .before .pre .joins (c .before .before .before .loop .k) (c .before .before .loop-test .taken))
+
+array-write-map : tie.Need-array-write-map Inv-loop μ-loop
+array-write-map c = omega (arith, c .end-at2 .ensures, c .before .end-at .ensures, c .before .before .before .before .before .before .before .pre .few-nodes, c .before .before .before .before .before .before .before .pre .joins (c .before .before .before .loop .k) (c .before .before .loop-test .taken))
+
+mul-map-3 : tie.Need-mul-map-3 Inv-loop μ-loop
+mul-map-3 c = omega (arith, c .before .before .before .before .before .before .before .pre .few-links)
+
+add-map-2 : tie.Need-add-map-2 Inv-loop μ-loop
+add-map-2 c = omega (arith, c .before .before .before .before .before .before .before .pre .few-links)
+
+cast-map-2 : tie.Need-cast-map-2 Inv-loop μ-loop
+cast-map-2 c = omega (arith, c .before .before .before .before .before .before .before .pre .few-links)
+
+mul-map-4 : tie.Need-mul-map-4 Inv-loop μ-loop
+mul-map-4 c = omega (arith, c .end-at2 .ensures, c .before .end-at .ensures, c .before .before .before .before .before .before .before .pre .few-nodes, c .before .before .before .before .before .before .before .pre .joins (c .before .before .before .loop .k) (c .before .before .loop-test .taken))
+
+add-map-3 : tie.Need-add-map-3 Inv-loop μ-loop
+add-map-3 c = omega (arith, c .end-at2 .ensures, c .before .end-at .ensures, c .before .before .before .before .before .before .before .pre .few-nodes, c .before .before .before .before .before .before .before .pre .joins (c .before .before .before .loop .k) (c .before .before .loop-test .taken))
+
+array-write-map-2 : tie.Need-array-write-map-2 Inv-loop μ-loop
+array-write-map-2 c = omega (arith, c .end-at2 .ensures, c .before .end-at .ensures, c .before .before .before .before .before .before .before .pre .few-nodes, c .before .before .before .before .before .before .before .pre .joins (c .before .before .before .loop .k) (c .before .before .loop-test .taken))
+
+add-k : tie.Need-add-k Inv-loop μ-loop
+add-k c = omega (arith, c .before .before .before .before .before .before .before .pre .few-links)
+
+loop-less : tie.Need-loop-less Inv-loop μ-loop
+loop-less c = omega arith
+
+loop-again : tie.Need-loop-again Inv-loop μ-loop
+loop-again c = (
+  omega arith,
+  rw (c .end-at2 .ensures, c .before .end-at .ensures) (neighbours-more _ _ _ _ (c .before .before .before .before .before .before .before .pre) (c .before .before .before .loop .k) (c .before .before .loop-test .taken) _ (c .before .before .before .loop .inv .1)),
+)
+
+returns : tie.Need-returns Inv-loop μ-loop
+returns c =
+    let whole : c .before .loop .k ≡ length (c .before .before .before .before .before .args .low .now) = omega (arith, c .before .loop .inv .0, c .loop-test .left) in
+    neighbours-end _ _ _ (rw whole at (c .before .loop .inv .1))
+
+pub neighbours-spec : {M : Type 1} → statement M
+neighbours-spec =
+    tie.close
+    (tie.spec
+    Inv-loop
+    μ-loop
+    loop-holds
+    end-at-requires
+    end-at-requires-2
+    mul-map
+    cast-map
+    mul-map-2
+    add-map
+    array-write-map
+    mul-map-3
+    add-map-2
+    cast-map-2
+    mul-map-4
+    add-map-3
+    array-write-map-2
+    add-k
+    loop-less
+    loop-again
+    returns)

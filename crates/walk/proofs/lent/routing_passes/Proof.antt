@@ -1,0 +1,77 @@
+-- The loop's invariant: every row passed is accepted. A row below n is wholly in the table.
+use Prim.Native.Nat.{ℕ, _≤_, _*_, _-_}
+use mathlib.Core.Bool.{true}
+use mathlib.Core.Path.{_≡_, refl, sym, _∙_}
+use native.Mathlib.Omega.{arith}
+use borrow.Author.Needs.{needs}
+use borrow.Author.Tests.{not-true, not-false}
+use lib.ListN.{length}
+use Rattle.walk.specs.Lent.{allBelow}
+use Rattle.walk.proofs.Below.{rowTest, table-is, row-within, row-as-part, below-none, below-one-more, below-fails, below-all}
+use Rattle.walk.proofs.lent.routing_passes.Statement.{statement}
+use Rattle.walk.proofs.lent.routing_passes.Tie as tie
+
+abbrev Inv-loop : tie.InvT-loop
+Inv-loop map n table i₀ i = (i ≤ n) × (allBelow i (rowTest map n (λ (i : ℕ). i) table) ≡ true)
+
+abbrev μ-loop : tie.MeasureT-loop
+μ-loop map n table i₀ i = n - i
+
+loop-holds : tie.Need-loop-holds Inv-loop μ-loop
+loop-holds c = (search needs, below-none _)
+
+mul-from : tie.Need-mul-from Inv-loop μ-loop
+mul-from c = omega (arith, row-within (c .before .before .before .before .args .n) (c .before .before .before .before .args .n) (c .before .loop .i) _ (c .loop-test .taken) (c .before .before .before .before .pre .2))
+
+add-to : tie.Need-add-to Inv-loop μ-loop
+add-to c = omega (arith, row-within (c .before .before .before .before .args .n) (c .before .before .before .before .args .n) (c .before .loop .i) _ (c .loop-test .taken) (c .before .before .before .before .pre .2))
+
+sub-row-passes : tie.Need-sub-row-passes Inv-loop μ-loop
+sub-row-passes c = search needs
+
+part-row-passes-start : tie.Need-part-row-passes-start Inv-loop μ-loop
+part-row-passes-start c = omega (arith, row-within (c .before .before .before .before .args .n) (c .before .before .before .before .args .n) (c .before .loop .i) _ (c .loop-test .taken) (c .before .before .before .before .pre .2))
+
+part-row-passes-end : tie.Need-part-row-passes-end Inv-loop μ-loop
+part-row-passes-end c = omega (arith, row-within (c .before .before .before .before .args .n) (c .before .before .before .before .args .n) (c .before .loop .i) _ (c .loop-test .taken) (c .before .before .before .before .pre .2))
+
+row-passes-requires : tie.Need-row-passes-requires Inv-loop μ-loop
+row-passes-requires c κs = search needs
+
+returns : tie.Need-returns Inv-loop μ-loop
+returns c = 
+    sym (table-is _ _ _ _ _ ∙ below-fails _ _ _ (c .before .before .before .loop-test .taken) (row-as-part _ (c .before .before .before .before .before .before .before .args .n) (λ (i : ℕ). i) (c .before .before .before .before .before .before .before .args .table .now) (c .before .before .before .before .loop .i) _ refl (c .before .row-passes .ensures) ∙ not-true _ (c .if1 .taken)))
+
+add-i : tie.Need-add-i Inv-loop μ-loop
+add-i c = omega arith
+
+loop-less : tie.Need-loop-less Inv-loop μ-loop
+loop-less c = omega arith
+
+loop-again : tie.Need-loop-again Inv-loop μ-loop
+loop-again c = (
+  omega arith,
+  below-one-more _ _ (c .before .before .before .before .loop .inv .1) (row-as-part _ (c .before .before .before .before .before .before .before .args .n) (λ (i : ℕ). i) (c .before .before .before .before .before .before .before .args .table .now) (c .before .before .before .before .loop .i) _ refl (c .before .row-passes .ensures) ∙ not-false _ (c .if1 .left)),
+)
+
+returns-2 : tie.Need-returns-2 Inv-loop μ-loop
+returns-2 c = sym (table-is _ _ _ _ _ ∙ below-all _ _ _ (c .before .loop .inv .0) (c .loop-test .left) (c .before .loop .inv .1))
+
+pub routing-passes-spec : {M : Type 1} → statement M
+routing-passes-spec =
+    tie.close
+    (tie.spec
+    Inv-loop
+    μ-loop
+    loop-holds
+    mul-from
+    add-to
+    sub-row-passes
+    part-row-passes-start
+    part-row-passes-end
+    row-passes-requires
+    returns
+    add-i
+    loop-less
+    loop-again
+    returns-2)
