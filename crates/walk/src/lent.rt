@@ -9,31 +9,31 @@ ghost use Rattle.net.specs.Check.{Accepted};
 ghost use Rattle.net.specs.Rows.{headOf, tailOf};
 ghost use Rattle.walk.specs.Lent.{tablesVerdict};
 ghost use Rattle.walk.specs.Moves.{Neighbours, foundIn, bytePassesIn, rowPassesIn, tablePassesIn};
-
+use net::Interface;
+use net::Verdict;
 use net::end_at;
 use net::entry;
 use net::head_of;
+use net::limit;
 use net::refusal;
 use net::tail_of;
-use net::Interface;
-use net::Verdict;
 
 // No interface leads there.
 pub const APART: u8 = 255;
 
-// For nodes i and v, at 32 i + v: the interface that leads from i to v, or 255.
-pub fn neighbours(n: usize, low: &[u8], high: &[u8], weight: &[u32]) -> [u8; 1024]
+// For nodes i and v, at NODES * i + v: the interface that leads from i to v, or 255.
+pub fn neighbours(n: usize, low: &[u8], high: &[u8], weight: &[u32]) -> [u8; limit::PAIRS]
     requires { ⌜ Accepted n (now low) (now high) (now weight) ⌝ }
     ensures { λ r. ⌜ Neighbours (now (low .entry)) (now (high .entry)) r ⌝ }
 {
-    let mut map = [APART; 1024];
+    let mut map = [APART; limit::PAIRS];
     let links = low.len();
     let mut k: usize = 0;
     while k < links {
         let x = end_at(low, k);
         let y = end_at(high, k);
-        map[32 * x + y] = (2 * k) as u8;
-        map[32 * y + x] = (2 * k + 1) as u8;
+        map[limit::NODES * x + y] = (2 * k) as u8;
+        map[limit::NODES * y + x] = (2 * k + 1) as u8;
         k += 1;
     }
     map
@@ -51,10 +51,10 @@ pub fn look_up(map: &[u8], i: usize, byte: u8) -> Found
     ensures { λ r. ⌜ r ≡ foundIn (now (map .entry)) i byte ⌝ }
 {
     let v = byte as usize;
-    if 32 <= v {
+    if limit::NODES <= v {
         return Found::Absent;
     }
-    let at = 32 * i + v;
+    let at = limit::NODES * i + v;
     let f = map[at];
     if f == APART {
         return Found::Absent;
@@ -110,13 +110,18 @@ fn routing_passes(map: &[u8], n: usize, table: &[u8]) -> bool
     true
 }
 
-fn forwarding_passes(map: &[u8], n: usize, low: &[u8], high: &[u8], weight: &[u32], table: &[u8]) -> bool
+fn forwarding_passes(
+    map: &[u8],
+    n: usize,
+    low: &[u8],
+    high: &[u8],
+    weight: &[u32],
+    table: &[u8],
+) -> bool
     requires { ⌜ Accepted n (now low) (now high) (now weight) ⌝ }
     requires { ⌜ (length (now map) ≡ mostNodes * mostNodes) × (2 * length (now low) * n ≤ length (now table)) ⌝ }
-    ensures {
-        λ r. ⌜ r ≡ tablePassesIn (now (map .entry)) n (2 * length (now (low .entry)))
-            (headOf (now (low .entry)) (now (high .entry))) (now (table .entry)) ⌝
-    }
+    ensures { λ r. ⌜ r ≡ tablePassesIn (now (map .entry)) n (2 * length (now (low .entry)))
+        (headOf (now (low .entry)) (now (high .entry))) (now (table .entry)) ⌝ }
 {
     let interfaces = 2 * low.len();
     let mut h: usize = 0;
@@ -131,13 +136,18 @@ fn forwarding_passes(map: &[u8], n: usize, low: &[u8], high: &[u8], weight: &[u3
     true
 }
 
-fn backwarding_passes(map: &[u8], n: usize, low: &[u8], high: &[u8], weight: &[u32], table: &[u8]) -> bool
+fn backwarding_passes(
+    map: &[u8],
+    n: usize,
+    low: &[u8],
+    high: &[u8],
+    weight: &[u32],
+    table: &[u8],
+) -> bool
     requires { ⌜ Accepted n (now low) (now high) (now weight) ⌝ }
     requires { ⌜ (length (now map) ≡ mostNodes * mostNodes) × (2 * length (now low) * n ≤ length (now table)) ⌝ }
-    ensures {
-        λ r. ⌜ r ≡ tablePassesIn (now (map .entry)) n (2 * length (now (low .entry)))
-            (tailOf (now (low .entry)) (now (high .entry))) (now (table .entry)) ⌝
-    }
+    ensures { λ r. ⌜ r ≡ tablePassesIn (now (map .entry)) n (2 * length (now (low .entry)))
+        (tailOf (now (low .entry)) (now (high .entry))) (now (table .entry)) ⌝ }
 {
     let interfaces = 2 * low.len();
     let mut h: usize = 0;
@@ -165,29 +175,48 @@ pub fn tables_verdict(
 ) -> Verdict
     requires { ⌜ Accepted n (now low) (now high) (now weight) ⌝ }
     requires { ⌜ Neighbours (now low) (now high) (now map) ⌝ }
-    ensures {
-        λ r. ⌜ r ≡ tablesVerdict n (now (low .entry)) (now (high .entry))
-            (now (routing .entry)) (now (forwarding .entry)) (now (backwarding .entry)) ⌝
-    }
+    ensures { λ r. ⌜ r ≡ tablesVerdict n (now (low .entry)) (now (high .entry))
+        (now (routing .entry)) (now (forwarding .entry)) (now (backwarding .entry)) ⌝ }
 {
     let rows = 2 * low.len() * n;
     if routing.len() < n * n {
-        return Verdict { number: refusal::TABLE_LENGTH, place: 0 };
+        return Verdict {
+            number: refusal::TABLE_LENGTH,
+            place: 0,
+        };
     }
     if forwarding.len() < rows {
-        return Verdict { number: refusal::TABLE_LENGTH, place: 0 };
+        return Verdict {
+            number: refusal::TABLE_LENGTH,
+            place: 0,
+        };
     }
     if backwarding.len() < rows {
-        return Verdict { number: refusal::TABLE_LENGTH, place: 0 };
+        return Verdict {
+            number: refusal::TABLE_LENGTH,
+            place: 0,
+        };
     }
     if !routing_passes(map, n, routing) {
-        return Verdict { number: refusal::TABLE_ENTRY, place: 0 };
+        return Verdict {
+            number: refusal::TABLE_ENTRY,
+            place: 0,
+        };
     }
     if !forwarding_passes(map, n, low, high, weight, forwarding) {
-        return Verdict { number: refusal::TABLE_ENTRY, place: 0 };
+        return Verdict {
+            number: refusal::TABLE_ENTRY,
+            place: 0,
+        };
     }
     if !backwarding_passes(map, n, low, high, weight, backwarding) {
-        return Verdict { number: refusal::TABLE_ENTRY, place: 0 };
+        return Verdict {
+            number: refusal::TABLE_ENTRY,
+            place: 0,
+        };
     }
-    Verdict { number: refusal::NONE, place: 0 }
+    Verdict {
+        number: refusal::NONE,
+        place: 0,
+    }
 }

@@ -6,24 +6,27 @@ ghost use lib.ListN.{length, getD};
 ghost use Rattle.net.specs.Limits.{mostNodes};
 ghost use Rattle.walk.specs.Walk.{endsNumber, walkAnswer, traceAfter};
 ghost use Rattle.walk.specs.Moves.{Reaches, trailFrom, trailAround, Went, WentFrom};
-
-use net::check_network;
-use net::refusal;
-use net::Failure;
-use net::Node;
-use net::Verdict;
+use crate::lent::Found;
 use crate::lent::look_up;
 use crate::lent::neighbours;
 use crate::lent::tables_verdict;
-use crate::lent::Found;
 use crate::steps::bad_failure;
 use crate::steps::fails;
+use net::Failure;
+use net::Node;
+use net::Verdict;
+use net::check_network;
+use net::refusal;
 
 // Document 01's endings.
 pub const DELIVERED: u8 = 0;
+
 pub const UNROUTED: u8 = 1;
+
 pub const DROPPED: u8 = 2;
+
 pub const EXHAUSTED: u8 = 3;
+
 pub const ASTRAY: u8 = 4;
 
 // What the entry answers; after a refusal ending and hop count are 0.
@@ -58,26 +61,58 @@ fn forwarding_move(
     requires { ⌜ (i < mostNodes) × (d < n) × (n ≤ mostNodes) × (length (now map) ≡ mostNodes * mostNodes) ⌝ }
     requires { ⌜ Reaches (now map) n (length (now forwarding)) × Reaches (now map) n (length (now backwarding)) ⌝ }
     requires { ⌜ hops + left < length (now trace) ⌝ }
-    ensures {
-        λ r. ⌜ Went (trailFrom left (now (map .entry)) n (now (forwarding .entry)) (now (backwarding .entry)) d failure i byte lost)
-            hops (now (trace .entry)) r (now (trace .exit)) ⌝
-    }
+    ensures { λ r. ⌜ Went (trailFrom left (now (map .entry)) n (now (forwarding .entry)) (now (backwarding .entry)) d failure i byte lost)
+        hops (now (trace .entry)) r (now (trace .exit)) ⌝ }
 {
     if i == d {
-        return Course { ending: DELIVERED, hops: hops };
+        return Course {
+            ending: DELIVERED,
+            hops: hops,
+        };
     }
     if left == 0 {
-        return Course { ending: EXHAUSTED, hops: hops };
+        return Course {
+            ending: EXHAUSTED,
+            hops: hops,
+        };
     }
     let Found::Next(v, f) = look_up(map, i, byte) else {
-        return Course { ending: lost, hops: hops };
+        return Course {
+            ending: lost,
+            hops: hops,
+        };
     };
     if fails(failure, f / 2) {
-        return backwarding_move(map, n, forwarding, backwarding, d, failure, i, f, left, hops, trace);
+        return backwarding_move(
+            map,
+            n,
+            forwarding,
+            backwarding,
+            d,
+            failure,
+            i,
+            f,
+            left,
+            hops,
+            trace,
+        );
     }
     let next = hops + 1;
     trace[next] = v as u8;
-    forwarding_move(map, n, forwarding, backwarding, d, failure, v, forwarding[f * n + d], left - 1, next, ASTRAY, trace)
+    forwarding_move(
+        map,
+        n,
+        forwarding,
+        backwarding,
+        d,
+        failure,
+        v,
+        forwarding[f * n + d],
+        left - 1,
+        next,
+        ASTRAY,
+        trace,
+    )
 }
 
 // At node i, whose entry leads over the failed link by interface f.
@@ -97,20 +132,37 @@ fn backwarding_move(
     requires { ⌜ (i < mostNodes) × (d < n) × (n ≤ mostNodes) × (length (now map) ≡ mostNodes * mostNodes) ⌝ }
     requires { ⌜ Reaches (now map) n (length (now forwarding)) × Reaches (now map) n (length (now backwarding)) ⌝ }
     requires { ⌜ (0 < left) × (hops + left < length (now trace)) × (f * n + d < length (now backwarding)) ⌝ }
-    ensures {
-        λ r. ⌜ Went (trailAround (left - 1) (now (map .entry)) n (now (forwarding .entry)) (now (backwarding .entry)) d failure i f)
-            hops (now (trace .entry)) r (now (trace .exit)) ⌝
-    }
+    ensures { λ r. ⌜ Went (trailAround (left - 1) (now (map .entry)) n (now (forwarding .entry)) (now (backwarding .entry)) d failure i f)
+        hops (now (trace .entry)) r (now (trace .exit)) ⌝ }
 {
     let Found::Next(v, g) = look_up(map, i, backwarding[f * n + d]) else {
-        return Course { ending: DROPPED, hops: hops };
+        return Course {
+            ending: DROPPED,
+            hops: hops,
+        };
     };
     if fails(failure, g / 2) {
-        return Course { ending: DROPPED, hops: hops };
+        return Course {
+            ending: DROPPED,
+            hops: hops,
+        };
     }
     let next = hops + 1;
     trace[next] = v as u8;
-    forwarding_move(map, n, forwarding, backwarding, d, failure, v, forwarding[g * n + d], left - 1, next, ASTRAY, trace)
+    forwarding_move(
+        map,
+        n,
+        forwarding,
+        backwarding,
+        d,
+        failure,
+        v,
+        forwarding[g * n + d],
+        left - 1,
+        next,
+        ASTRAY,
+        trace,
+    )
 }
 
 // A walk over tables that have been checked.
@@ -129,15 +181,26 @@ pub fn walk_from(
     requires { ⌜ (s < n) × (d < n) × (n ≤ mostNodes) × (length (now map) ≡ mostNodes * mostNodes) ⌝ }
     requires { ⌜ Reaches (now map) n (length (now forwarding)) × Reaches (now map) n (length (now backwarding)) ⌝ }
     requires { ⌜ (n * n ≤ length (now routing)) × (limit < length (now trace)) ⌝ }
-    ensures {
-        λ r. ⌜ WentFrom s
-            (trailFrom limit (now (map .entry)) n (now (forwarding .entry)) (now (backwarding .entry)) d failure s
-              (getD (now (routing .entry)) (s * n + d) 0) 1)
-            (now (trace .entry)) r (now (trace .exit)) ⌝
-    }
+    ensures { λ r. ⌜ WentFrom s
+        (trailFrom limit (now (map .entry)) n (now (forwarding .entry)) (now (backwarding .entry)) d failure s
+        (getD (now (routing .entry)) (s * n + d) 0) 1)
+        (now (trace .entry)) r (now (trace .exit)) ⌝ }
 {
     trace[0] = s as u8;
-    forwarding_move(map, n, forwarding, backwarding, d, failure, s, routing[s * n + d], limit, 0, UNROUTED, trace)
+    forwarding_move(
+        map,
+        n,
+        forwarding,
+        backwarding,
+        d,
+        failure,
+        s,
+        routing[s * n + d],
+        limit,
+        0,
+        UNROUTED,
+        trace,
+    )
 }
 
 // 12, 11 (source, then destination) of an accepted network.
@@ -159,7 +222,12 @@ fn ends_verdict(n: usize, links: usize, s: usize, d: usize, failure: Failure) ->
 fn refused(number: u8, place: usize) -> Walked
     ensures { λ r. ⌜ (r .number ≡ number) × (r .place ≡ place) × (r .ending ≡ 0) × (r .hops ≡ 0) ⌝ }
 {
-    Walked { number: number, place: place, ending: 0, hops: 0 }
+    Walked {
+        number: number,
+        place: place,
+        ending: 0,
+        hops: 0,
+    }
 }
 
 pub fn walk(
@@ -176,16 +244,12 @@ pub fn walk(
     limit: u8,
     trace: &mut [u8],
 ) -> Walked
-    ensures {
-        λ r. ⌜ r ≡ walkAnswer n (now (low .entry)) (now (high .entry)) (now (weight .entry))
-            (now (routing .entry)) (now (forwarding .entry)) (now (backwarding .entry))
-            (source .0) (destination .0) failure limit (now (trace .entry)) ⌝
-    }
-    ensures {
-        λ r. ⌜ now (trace .exit) ≡ traceAfter n (now (low .entry)) (now (high .entry)) (now (weight .entry))
-            (now (routing .entry)) (now (forwarding .entry)) (now (backwarding .entry))
-            (source .0) (destination .0) failure limit (now (trace .entry)) ⌝
-    }
+    ensures { λ r. ⌜ r ≡ walkAnswer n (now (low .entry)) (now (high .entry)) (now (weight .entry))
+        (now (routing .entry)) (now (forwarding .entry)) (now (backwarding .entry))
+        (source .0) (destination .0) failure limit (now (trace .entry)) ⌝ }
+    ensures { λ r. ⌜ now (trace .exit) ≡ traceAfter n (now (low .entry)) (now (high .entry)) (now (weight .entry))
+        (now (routing .entry)) (now (forwarding .entry)) (now (backwarding .entry))
+        (source .0) (destination .0) failure limit (now (trace .entry)) ⌝ }
 {
     let s = source.0;
     let d = destination.0;
@@ -205,6 +269,22 @@ pub fn walk(
     if trace.len() <= limit as usize {
         return refused(refusal::TRACE_LENGTH, 0);
     }
-    let course = walk_from(&map, n, routing, forwarding, backwarding, s, d, failure, limit as usize, trace);
-    Walked { number: refusal::NONE, place: 0, ending: course.ending, hops: course.hops }
+    let course = walk_from(
+        &map,
+        n,
+        routing,
+        forwarding,
+        backwarding,
+        s,
+        d,
+        failure,
+        limit as usize,
+        trace,
+    );
+    Walked {
+        number: refusal::NONE,
+        place: 0,
+        ending: course.ending,
+        hops: course.hops,
+    }
 }

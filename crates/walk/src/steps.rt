@@ -5,18 +5,17 @@ ghost use lib.ListN.{length, getD};
 ghost use Rattle.net.specs.Limits.{mostNodes};
 ghost use Rattle.walk.specs.Step.{fails as failsBy, badFailure, badInterface, badStart, askedNumber, stepAnswer};
 ghost use Rattle.walk.specs.Moves.{foundIn, Reaches, stepAround, stepIn};
-
-use net::check_network;
-use net::head_of;
-use net::refusal;
+use crate::lent::Found;
+use crate::lent::look_up;
+use crate::lent::neighbours;
+use crate::lent::tables_verdict;
 use net::Failure;
 use net::Interface;
 use net::Node;
 use net::Verdict;
-use crate::lent::look_up;
-use crate::lent::neighbours;
-use crate::lent::tables_verdict;
-use crate::lent::Found;
+use net::check_network;
+use net::head_of;
+use net::refusal;
 
 pub enum Asked {
     Start(Node),
@@ -92,7 +91,15 @@ fn asked_verdict(n: usize, links: usize, asked: Asked, d: usize, failure: Failur
 }
 
 // Past the failed link: the backwarding entry of interface f, which leaves node i.
-fn step_around(map: &[u8], n: usize, backwarding: &[u8], d: usize, failure: Failure, i: usize, f: usize) -> Stepped
+fn step_around(
+    map: &[u8],
+    n: usize,
+    backwarding: &[u8],
+    d: usize,
+    failure: Failure,
+    i: usize,
+    f: usize,
+) -> Stepped
     requires { ⌜ (i < mostNodes) × (length (now map) ≡ mostNodes * mostNodes) × (f * n + d < length (now backwarding)) ⌝ }
     ensures { λ r. ⌜ r ≡ stepAround failure (foundIn (now (map .entry)) i (getD (now (backwarding .entry)) (f * n + d) 0)) ⌝ }
 {
@@ -106,7 +113,15 @@ fn step_around(map: &[u8], n: usize, backwarding: &[u8], d: usize, failure: Fail
 }
 
 // The step at node i with the entry that is read there.
-fn step_at(map: &[u8], n: usize, backwarding: &[u8], d: usize, failure: Failure, i: usize, byte: u8) -> Stepped
+fn step_at(
+    map: &[u8],
+    n: usize,
+    backwarding: &[u8],
+    d: usize,
+    failure: Failure,
+    i: usize,
+    byte: u8,
+) -> Stepped
     requires { ⌜ (i < mostNodes) × (d < n) × (n ≤ mostNodes) × (length (now map) ≡ mostNodes * mostNodes) ⌝ }
     requires { ⌜ Reaches (now map) n (length (now backwarding)) ⌝ }
     ensures { λ r. ⌜ r ≡ stepIn (now (map .entry)) n (now (backwarding .entry)) d failure i byte ⌝ }
@@ -135,10 +150,8 @@ pub fn step(
     destination: Node,
     failure: Failure,
 ) -> Stepped
-    ensures {
-        λ r. ⌜ r ≡ stepAnswer n (now (low .entry)) (now (high .entry)) (now (weight .entry))
-            (now (routing .entry)) (now (forwarding .entry)) (now (backwarding .entry)) asked (destination .0) failure ⌝
-    }
+    ensures { λ r. ⌜ r ≡ stepAnswer n (now (low .entry)) (now (high .entry)) (now (weight .entry))
+        (now (routing .entry)) (now (forwarding .entry)) (now (backwarding .entry)) asked (destination .0) failure ⌝ }
 {
     let d = destination.0;
     let verdict = check_network(n, low, high, weight);

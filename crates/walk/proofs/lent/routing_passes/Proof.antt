@@ -39,7 +39,7 @@ row-passes-requires : tie.Need-row-passes-requires Inv-loop μ-loop
 row-passes-requires c κs = search needs
 
 returns : tie.Need-returns Inv-loop μ-loop
-returns c = 
+returns c =
     sym (table-is _ _ _ _ _ ∙ below-fails _ _ _ (c .before .before .before .loop-test .taken) (row-as-part _ (c .before .before .before .before .before .before .before .args .n) (λ (i : ℕ). i) (c .before .before .before .before .before .before .before .args .table .now) (c .before .before .before .before .loop .i) _ refl (c .before .row-passes .ensures) ∙ not-true _ (c .if1 .taken)))
 
 add-i : tie.Need-add-i Inv-loop μ-loop
