@@ -78,7 +78,7 @@ module _ {n : ℕ} {low high weight routing forwarding backwarding routing′ fo
   unfolding buildVerdict
   network-fine = first-accepted _ _ all-fine
 
-  built-network : Accepted n low high weight
+  pub built-network : Accepted n low high weight
   built-network = check-accepts n low high weight network-fine
 
   lengths-fine : tablesShort n (length low) routing forwarding backwarding ≡ false

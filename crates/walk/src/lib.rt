@@ -11,5 +11,6 @@ pub use moves::walk;
 pub use moves::walk_from;
 pub use steps::Asked;
 pub use steps::Stepped;
+pub use steps::bad_failure;
 pub use steps::fails;
 pub use steps::step;

@@ -1,0 +1,6 @@
+pub mod Sums
+pub mod Walks
+pub mod AllLines
+pub mod Figures
+pub mod Answers
+pub mod Determined
