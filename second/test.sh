@@ -26,12 +26,23 @@ compare() {
 }
 
 if [ "$failed" -eq 0 ]; then
-    for program in second make_batch compare; do
+    for program in second make_batch make_networks compare; do
         rustc -O --edition 2021 -D warnings "second/$program.rs" -o "$out/$program" || failed=$((failed + 1))
     done
 fi
 if [ "$failed" -eq 0 ]; then
+    "$out/second" selftest || failed=$((failed + 1))
     "$out/make_batch" 1 2500 > "$out/codec.batch" && compare codec codec codec
+    "$out/make_networks" 1 400 > "$out/answers.batch" && compare answers answers tables
+    for plan in plans/*.plan; do
+        if target/bin/nightplan < "$plan" > "$out/report.proved" && "$out/second" report < "$plan" > "$out/report.second" &&
+            cmp "$out/report.proved" "$out/report.second"; then
+            passed=$((passed + 1))
+        else
+            echo "$plan: the two reports differ"
+            failed=$((failed + 1))
+        fi
+    done
 fi
 echo "$passed passed, $failed failed"
 [ "$failed" -eq 0 ]

@@ -1,7 +1,8 @@
--- A test that holds of every number below a count, as a loop makes it: one number more, and the first at which it fails.
+-- A test that holds of every number below a count, as a loop makes it: one number more, and the first at which it fails. With it the rows
+-- of a table: each is wholly in a table that is long enough, and the check goes row by row, byte by byte.
 use Prim.Native.Nat.{ℕ, zero, suc, _+_, _*_, _-_, _<_, _≤_}
 use mathlib.Core.Bool.{Bool, true, false}
-use mathlib.Core.Path.{_≡_, refl, sym, _∙_}
+use mathlib.Core.Path.{_≡_, refl, sym}
 use mathlib.Core.List.{List}
 use native.Mathlib.Nat.{mul-le-mul, mul-le-mul-right}
 use native.Mathlib.Numerals.{add-one, add-one-le}

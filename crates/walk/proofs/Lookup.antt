@@ -9,7 +9,6 @@ use mathlib.Core.Path.{_≡_, refl, sym, ap, ap₂, _∙_}
 use mathlib.Core.List.{List}
 use mathlib.Core.Option.{Option, none, some}
 use native.Mathlib.Decide.{ℕ-discrete, decLe}
-use native.Mathlib.Nat.{mul-le-mul-right}
 use native.Mathlib.Omega.{arith}
 use borrow.Author.Tests.{lt-ltb, le-ltb, le-leb, lt-leb, eq-eqb, ne-eqb}
 use lib.ListN.{length, getD, set, take, drop, replicate, length-set, length-replicate, getD-replicate, length-drop}
@@ -29,6 +28,7 @@ use Rattle.walk.specs.Lent.{tablesVerdict}
 use Rattle.walk.specs.Moves.{interfaceByte, Neighbours, foundIn, isNext, bytePassesIn, rowPassesIn, tablePassesIn, Reaches}
 use Rattle.walk.specs.declared.lent.Found.{Found}
 use Rattle.walk.specs.declared.lent.Found.the-variants.{Next, Absent}
+use Rattle.walk.proofs.Below.{row-within}
 
 -- what a search of the interfaces from f on, below bound, for one from i to v comes to
 data Searched (low high : List ℕ) (i v f bound : ℕ) : Option ℕ → Type 0 where
@@ -289,8 +289,7 @@ module _ (n : ℕ) (low high weight map : List ℕ) (A : Accepted n low high wei
       go (some f) e =
           let is : getD map at 0 ≡ f = at-place ∙ ap interfaceByte e in
           let (f-below, t, s) = interface-found low high (at / mostNodes) (at % mostNodes) e in
-          let row : (f + 1) * n ≤ 2 * length low * n = mul-le-mul-right n (omega arith) in
-          rw is (omega (arith, row))
+          rw is (row-within n (2 * length low) f size f-below long)
 
   byte-passes-in : (i d byte : ℕ) → i < n → bytePassesIn map i d byte ≡ bytePasses low high i d byte
   unfolding bytePassesIn bytePasses isNext isSome foundBy leads
@@ -300,18 +299,13 @@ module _ (n : ℕ) (low high weight map : List ℕ) (A : Accepted n low high wei
       is-next none = refl
       is-next (some f) = refl
 
-  row-fits : (rows row size : ℕ) → rows * n ≤ size → row < rows → row * n + n ≤ size
-  row-fits rows row size long h =
-      let up-to : (row + 1) * n ≤ rows * n = mul-le-mul-right n (omega arith) in
-      omega (arith, up-to)
-
   -- the check of a table by the map is the check
   pub passes-in : (rows : ℕ) (deciding : ℕ → ℕ) (table : List ℕ) → rows * n ≤ length table → ((row : ℕ) → row < rows → deciding row < n)
       → tablePassesIn map n rows deciding table ≡ tablePasses n low high rows deciding table
   unfolding tablePassesIn tablePasses rowPassesIn
   passes-in rows deciding table long nodes =
       all-same rows _ _ λ row h.
-      let fits : row * n + n ≤ length table = row-fits rows row (length table) long h in
+      let fits : row * n + n ≤ length table = row-within n rows row (length table) h long in
       let row-length : length (take n (drop (row * n) table)) ≡ n =
       length-take-le n (drop (row * n) table) (simp length-drop (omega arith)) in
       rw row-length (all-same n _ _ λ d d-below.

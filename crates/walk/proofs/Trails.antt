@@ -1,21 +1,20 @@
 -- The walk told move by move: what the trail is by the tests that a move makes, and what a move adds to answer and trace. Answer and
 -- trace go together: a move that crosses a link has stored its node one place on, so the rest of the walk from there is the whole.
 use Prim.Native.Nat.{ℕ, zero, suc, _+_, _*_, _-_, _/_, _<_}
-use mathlib.Core.Bool.{Bool, true, false}
+use mathlib.Core.Bool.{true, false}
 use mathlib.Core.Path.{_≡_, refl, sym, _∙_}
 use mathlib.Core.Logic.{_≢_}
-use mathlib.Core.List.{List, [], _∷_, _++_, append-assoc}
+use mathlib.Core.List.{List, [], _∷_, append-assoc}
 use native.Mathlib.Nat.{add-zero}
 use native.Mathlib.Numerals.{add-one}
 use native.Mathlib.Omega.{arith}
 use borrow.Author.Tests.{eq-eqb, ne-eqb}
-use lib.ListN.{length, getD, take, drop, set, take-append-drop}
+use lib.ListN.{length, getD, set, take-append-drop}
 use lib.Seq.{take-suc-set, drop-set-lt}
 use Rattle.graph.specs.Network.{link}
 use Rattle.net.specs.declared.interface.Failure.{Failure}
 use Rattle.walk.specs.Step.{fails}
 use Rattle.walk.specs.Moves.{foundIn, Trail, ends, enters, aroundBy, alongBy, trailFrom, trailAround, traced, Went, WentFrom}
-use Rattle.walk.specs.declared.lent.Found.{Found}
 use Rattle.walk.specs.declared.lent.Found.the-variants.{Next, Absent}
 use Rattle.walk.specs.declared.moves.Course.{Course}
 

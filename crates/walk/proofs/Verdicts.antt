@@ -1,7 +1,7 @@
 -- The refusals of a step and of a walk in the order of document 01: the network's, those of the question, then 14, 16, and of a walk 15.
 -- The first that holds decides; where none does, the network is accepted and the tables are as long as their rows.
 use Prim.Native.Nat.{ℕ, _*_, _≤_, _<_}
-use mathlib.Core.Path.{_≡_, refl, sym, ap, _∙_}
+use mathlib.Core.Path.{_≡_, sym, ap, _∙_}
 use mathlib.Core.Logic.{_≢_}
 use mathlib.Core.List.{List}
 use native.Mathlib.Decide.{decLt}
@@ -10,10 +10,11 @@ use borrow.Author.Tests.{le-leb, lt-leb, eq-eqb, ne-eqb}
 use lib.ListN.{length}
 use lib.Dec.{leb}
 use Rattle.net.specs.Refusals.{accepted, tableLength, traceLength}
-use Rattle.net.specs.Check.{checkNetwork, verdict, orElse, refusedIf, Accepted}
+use Rattle.net.specs.Check.{checkNetwork, verdict, refusedIf, Accepted}
 use Rattle.net.specs.declared.check.Verdict.{Verdict}
 use Rattle.net.specs.declared.interface.Failure.{Failure}
 use Rattle.net.proofs.Accepted.{check-accepts}
+use Rattle.net.proofs.Verdicts.{or-else-first, or-else-second, is-refused, not-refused}
 use Rattle.walk.specs.Lent.{tablesVerdict}
 use Rattle.walk.specs.Step.{askedNumber, stepVerdict, stepOf, stepAnswer}
 use Rattle.walk.specs.Walk.{endsNumber, walkVerdict, walkedBy, walkAnswer, traceAfter}
@@ -22,16 +23,6 @@ use Rattle.walk.specs.declared.steps.Asked.{Asked}
 use Rattle.walk.specs.declared.steps.Stepped.the-variants.{Refused}
 use Rattle.walk.specs.declared.moves.Walked.{Walked}
 use Rattle.walk.proofs.Lookup.{routing-short, forwarding-short, backwarding-short}
-
--- the first of two verdicts that refuses
-module _ (first second : Verdict) where
-  first-decides : first .number ≢ accepted → orElse first second ≡ first
-  unfolding orElse
-  first-decides h = simp (ne-eqb _ _ h)
-
-  second-decides : first .number ≡ accepted → orElse first second ≡ second
-  unfolding orElse
-  second-decides h = simp (eq-eqb _ _ h)
 
 -- what is known once the tests have been passed
 pub record Ready (n : ℕ) (low high weight routing forwarding backwarding table : List ℕ) : Type 0 where
@@ -90,7 +81,7 @@ module _ (n : ℕ) (low high weight routing forwarding backwarding : List ℕ) (
     pub step-network-refused : network .number ≢ accepted
         → Refused (network .number) (network .place) ≡ stepAnswer n low high weight routing forwarding backwarding asked d failure
     unfolding stepVerdict
-    step-network-refused h = step-refused network (rw (← checked, first-decides network _ h)) h
+    step-network-refused h = step-refused network (rw (← checked, or-else-first network _ h)) h
 
     module _ (fine : network .number ≡ accepted) {question : ℕ} (questioned : question ≡ askedNumber n (length low) asked d failure) where
       pub step-question-refused : question ≢ accepted
@@ -98,13 +89,13 @@ module _ (n : ℕ) (low high weight routing forwarding backwarding : List ℕ) (
       unfolding stepVerdict
       step-question-refused h =
           step-refused (verdict question)
-          (rw (← checked, second-decides network _ fine, ← questioned, first-decides (verdict question) _ h)) h
+          (rw (← checked, or-else-second network _ fine, ← questioned, or-else-first (verdict question) _ h)) h
 
       module _ (taken : question ≡ accepted) {tables : Verdict} (judged : tables ≡ tablesVerdict n low high routing forwarding backwarding) where
         step-by-tables : stepVerdict n low high weight routing forwarding backwarding asked d failure ≡ tables
         unfolding stepVerdict
         step-by-tables =
-            rw (← checked, second-decides network _ fine, ← questioned, second-decides (verdict question) _ taken, ← judged)
+            rw (← checked, or-else-second network _ fine, ← questioned, or-else-second (verdict question) _ taken, ← judged)
 
         pub step-tables-refused : tables .number ≢ accepted
             → Refused (tables .number) (tables .place) ≡ stepAnswer n low high weight routing forwarding backwarding asked d failure
@@ -140,14 +131,14 @@ module _ (n : ℕ) (low high weight routing forwarding backwarding : List ℕ) (
   module _ {network : Verdict} (checked : network ≡ checkNetwork n low high weight) where
     pub walk-network-refused : {r : Walked} → network .number ≢ accepted → Answers r (network .number) (network .place) → Unmade r
     unfolding walkVerdict
-    walk-network-refused h is = walk-refused network (rw (← checked, first-decides network _ h)) h is
+    walk-network-refused h is = walk-refused network (rw (← checked, or-else-first network _ h)) h is
 
     module _ (fine : network .number ≡ accepted) {question : ℕ} (questioned : question ≡ endsNumber n (length low) s d failure) where
       pub walk-question-refused : {r : Walked} → question ≢ accepted → Answers r question 0 → Unmade r
       unfolding walkVerdict
       walk-question-refused h is =
           walk-refused (verdict question)
-          (rw (← checked, second-decides network _ fine, ← questioned, first-decides (verdict question) _ h)) h is
+          (rw (← checked, or-else-second network _ fine, ← questioned, or-else-first (verdict question) _ h)) h is
 
       module _ (taken : question ≡ accepted) {tables : Verdict} (judged : tables ≡ tablesVerdict n low high routing forwarding backwarding) where
         pub walk-tables-refused : {r : Walked} → tables .number ≢ accepted → Answers r (tables .number) (tables .place) → Unmade r
@@ -156,11 +147,11 @@ module _ (n : ℕ) (low high weight routing forwarding backwarding : List ℕ) (
             walk-refused tables
             (rw (
               ← checked,
-              second-decides network _ fine,
+              or-else-second network _ fine,
               ← questioned,
-              second-decides (verdict question) _ taken,
+              or-else-second (verdict question) _ taken,
               ← judged,
-              first-decides tables _ h,
+              or-else-first tables _ h,
             ))
             h is
 
@@ -171,18 +162,17 @@ module _ (n : ℕ) (low high weight routing forwarding backwarding : List ℕ) (
           walk-by-trace =
               rw (
                 ← checked,
-                second-decides network _ fine,
+                or-else-second network _ fine,
                 ← questioned,
-                second-decides (verdict question) _ taken,
+                or-else-second (verdict question) _ taken,
                 ← judged,
-                second-decides tables _ passed,
+                or-else-second tables _ passed,
               )
 
           pub walk-trace-refused : {r : Walked} → length trace ≤ limit → Answers r traceLength 0 → Unmade r
-          unfolding refusedIf
-          walk-trace-refused h is = walk-refused (verdict traceLength) (rw (walk-by-trace, le-leb _ _ h)) (λ z. omega arith) is
+          walk-trace-refused h is =
+              walk-refused (verdict traceLength) (walk-by-trace ∙ is-refused traceLength (le-leb _ _ h)) (λ z. omega arith) is
 
           pub walk-taken : limit < length trace
               → walkVerdict n low high weight routing forwarding backwarding s d failure limit trace .number ≡ accepted
-          unfolding refusedIf
-          walk-taken h = rw (walk-by-trace, lt-leb _ _ h)
+          walk-taken h = ap (λ (v : Verdict). v .number) (walk-by-trace ∙ not-refused traceLength (lt-leb _ _ h))

@@ -22,13 +22,13 @@ enum-told-2 c = search needs
 
 returns-3 : tie.Need-returns-3
 returns-3 c =
-    let at = c .before .before in
-    sym (neighbour-passes _ _ _ _ (at .before .before .if1 .left) (at .before .if2 .left) _ (at .look-up .ensures) ∙ absent-fails _ (c .enum-told2 .given .1))
+    sym (neighbour-passes _ _ _ _ (c .before .before .before .before .if1 .left) (c .before .before .before .if2 .left) _ (c .before .before .look-up .ensures)
+    ∙ absent-fails _ (c .enum-told2 .given .1))
 
 returns-4 : tie.Need-returns-4
 returns-4 c =
-    let at = c .before .before in
-    sym (neighbour-passes _ _ _ _ (at .before .before .if1 .left) (at .before .if2 .left) _ (at .look-up .ensures) ∙ next-passes _ _ _ (c .enum-told .given .1))
+    sym (neighbour-passes _ _ _ _ (c .before .before .before .before .if1 .left) (c .before .before .before .if2 .left) _ (c .before .before .look-up .ensures)
+    ∙ next-passes _ _ _ (c .enum-told .given .1))
 
 pub byte-passes-spec : {M : Type 1} → statement M
 byte-passes-spec =

@@ -3,6 +3,7 @@ use Prim.Native.Nat.{_+_, _*_}
 use mathlib.Core.Path.{sym}
 use native.Mathlib.Omega.{arith}
 use borrow.Author.Needs.{needs}
+use Rattle.net.specs.Limits.{mostNodes}
 use Rattle.walk.proofs.Answers.{found-no-node, found-apart, found-next}
 use Rattle.walk.proofs.lent.look_up.Statement.{statement}
 use Rattle.walk.proofs.lent.look_up.Tie as tie
@@ -23,7 +24,7 @@ returns-2 : tie.Need-returns-2
 returns-2 c = sym (found-apart _ _ _ (c .before .before .if1 .left) (c .if2 .taken))
 
 cast-t8 : tie.Need-cast-t8
-cast-t8 c = omega (arith, c .before .shared-slice-known .given (32 * c .before .before .before .args .i + c .before .before .before .args .byte))
+cast-t8 c = omega (arith, c .before .shared-slice-known .given (mostNodes * c .before .before .before .args .i + c .before .before .before .args .byte))
 
 returns-3 : tie.Need-returns-3
 returns-3 c = sym (found-next _ _ _ (c .before .before .if1 .left) (c .if2 .left))

@@ -1,9 +1,11 @@
--- The loop's invariant: the map says of the links passed what `neighbours` says of all.
-use Prim.Native.Nat.{_≤_, _-_}
+-- The loop's invariant: of the links passed, the map says what `Neighbours` asks of all. A link's ends are nodes, so both its places are in
+-- the map, and its two interfaces are bytes.
+use Prim.Native.Nat.{_-_, _<_, _≤_}
 use mathlib.Core.Path.{_≡_}
 use native.Mathlib.Omega.{arith}
 use borrow.Author.Needs.{needs}
 use lib.ListN.{length}
+use Rattle.net.specs.Limits.{mostNodes, mostLinks}
 use Rattle.walk.proofs.Lookup.{NeighboursUpTo, neighbours-start, neighbours-more, neighbours-end}
 use Rattle.walk.proofs.lent.neighbours.Statement.{statement}
 use Rattle.walk.proofs.lent.neighbours.Tie as tie
@@ -13,6 +15,23 @@ Inv-loop n low high weight map₀ links k₀ map k = (k ≤ links) × Neighbours
 
 abbrev μ-loop : tie.MeasureT-loop
 μ-loop n low high weight map₀ links k₀ map k = links - k
+
+-- the two ends have been read
+abbrev Read : Type 0
+Read = tie.After-end-at2 Inv-loop μ-loop
+
+abbrev start : Read → tie.Start Inv-loop μ-loop
+start c = c .before .before .before .before .before .before .before
+
+link-below : (c : Read) → c .before .before .before .loop .k < mostLinks
+link-below c = omega (arith, start c .pre .few-links, c .before .before .loop-test .taken)
+
+ends-below : (c : Read) → (c .before .end-at .result < mostNodes) × (c .end-at2 .result < mostNodes)
+ends-below c =
+    let joins = start c .pre .joins (c .before .before .before .loop .k) (c .before .before .loop-test .taken) in (
+      omega (arith, c .before .end-at .ensures, start c .pre .few-nodes, joins),
+      omega (arith, c .end-at2 .ensures, start c .pre .few-nodes, joins),
+    )
 
 loop-holds : tie.Need-loop-holds Inv-loop μ-loop
 loop-holds c = (search needs, neighbours-start _ _)
@@ -24,40 +43,40 @@ end-at-requires-2 : tie.Need-end-at-requires-2 Inv-loop μ-loop
 end-at-requires-2 c κs = search needs
 
 mul-map : tie.Need-mul-map Inv-loop μ-loop
-mul-map c = omega (arith, c .before .before .before .before .before .before .before .pre .few-links)
+mul-map c = omega (arith, link-below c)
 
 cast-map : tie.Need-cast-map Inv-loop μ-loop
-cast-map c = omega (arith, c .before .before .before .before .before .before .before .pre .few-links)
+cast-map c = omega (arith, link-below c)
 
 mul-map-2 : tie.Need-mul-map-2 Inv-loop μ-loop
-mul-map-2 c = omega (arith, c .end-at2 .ensures, c .before .end-at .ensures, c .before .before .before .before .before .before .before .pre .few-nodes, c .before .before .before .before .before .before .before .pre .joins (c .before .before .before .loop .k) (c .before .before .loop-test .taken))
+mul-map-2 c = omega (arith, ends-below c)
 
 add-map : tie.Need-add-map Inv-loop μ-loop
-add-map c = omega (arith, c .end-at2 .ensures, c .before .end-at .ensures, c .before .before .before .before .before .before .before .pre .few-nodes, c .before .before .before .before .before .before .before .pre .joins (c .before .before .before .loop .k) (c .before .before .loop-test .taken))
+add-map c = omega (arith, ends-below c)
 
 array-write-map : tie.Need-array-write-map Inv-loop μ-loop
-array-write-map c = omega (arith, c .end-at2 .ensures, c .before .end-at .ensures, c .before .before .before .before .before .before .before .pre .few-nodes, c .before .before .before .before .before .before .before .pre .joins (c .before .before .before .loop .k) (c .before .before .loop-test .taken))
+array-write-map c = omega (arith, ends-below c)
 
 mul-map-3 : tie.Need-mul-map-3 Inv-loop μ-loop
-mul-map-3 c = omega (arith, c .before .before .before .before .before .before .before .pre .few-links)
+mul-map-3 c = omega (arith, link-below c)
 
 add-map-2 : tie.Need-add-map-2 Inv-loop μ-loop
-add-map-2 c = omega (arith, c .before .before .before .before .before .before .before .pre .few-links)
+add-map-2 c = omega (arith, link-below c)
 
 cast-map-2 : tie.Need-cast-map-2 Inv-loop μ-loop
-cast-map-2 c = omega (arith, c .before .before .before .before .before .before .before .pre .few-links)
+cast-map-2 c = omega (arith, link-below c)
 
 mul-map-4 : tie.Need-mul-map-4 Inv-loop μ-loop
-mul-map-4 c = omega (arith, c .end-at2 .ensures, c .before .end-at .ensures, c .before .before .before .before .before .before .before .pre .few-nodes, c .before .before .before .before .before .before .before .pre .joins (c .before .before .before .loop .k) (c .before .before .loop-test .taken))
+mul-map-4 c = omega (arith, ends-below c)
 
 add-map-3 : tie.Need-add-map-3 Inv-loop μ-loop
-add-map-3 c = omega (arith, c .end-at2 .ensures, c .before .end-at .ensures, c .before .before .before .before .before .before .before .pre .few-nodes, c .before .before .before .before .before .before .before .pre .joins (c .before .before .before .loop .k) (c .before .before .loop-test .taken))
+add-map-3 c = omega (arith, ends-below c)
 
 array-write-map-2 : tie.Need-array-write-map-2 Inv-loop μ-loop
-array-write-map-2 c = omega (arith, c .end-at2 .ensures, c .before .end-at .ensures, c .before .before .before .before .before .before .before .pre .few-nodes, c .before .before .before .before .before .before .before .pre .joins (c .before .before .before .loop .k) (c .before .before .loop-test .taken))
+array-write-map-2 c = omega (arith, ends-below c)
 
 add-k : tie.Need-add-k Inv-loop μ-loop
-add-k c = omega (arith, c .before .before .before .before .before .before .before .pre .few-links)
+add-k c = omega (arith, link-below c)
 
 loop-less : tie.Need-loop-less Inv-loop μ-loop
 loop-less c = omega arith
@@ -65,12 +84,15 @@ loop-less c = omega arith
 loop-again : tie.Need-loop-again Inv-loop μ-loop
 loop-again c = (
   omega arith,
-  rw (c .end-at2 .ensures, c .before .end-at .ensures) (neighbours-more _ _ _ _ (c .before .before .before .before .before .before .before .pre) (c .before .before .before .loop .k) (c .before .before .loop-test .taken) _ (c .before .before .before .loop .inv .1)),
+  rw (c .end-at2 .ensures, c .before .end-at .ensures)
+      (neighbours-more _ _ _ _ (start c .pre) (c .before .before .before .loop .k) (c .before .before .loop-test .taken) _
+      (c .before .before .before .loop .inv .1)),
 )
 
 returns : tie.Need-returns Inv-loop μ-loop
 returns c =
-    let whole : c .before .loop .k ≡ length (c .before .before .before .before .before .args .low .now) = omega (arith, c .before .loop .inv .0, c .loop-test .left) in
+    let links = length (c .before .before .before .before .before .args .low .now) in
+    let whole : c .before .loop .k ≡ links = omega (arith, c .before .loop .inv .0, c .loop-test .left) in
     neighbours-end _ _ _ (rw whole at (c .before .loop .inv .1))
 
 pub neighbours-spec : {M : Type 1} → statement M

@@ -1,5 +1,5 @@
--- The loop's invariant: every row passed is accepted. A row below n is wholly in the table.
-use Prim.Native.Nat.{ℕ, _≤_, _*_, _-_}
+-- The loop's invariant: every row passed is accepted. A row is wholly in the table, and its deciding node is its own number.
+use Prim.Native.Nat.{ℕ, _+_, _*_, _-_, _≤_}
 use mathlib.Core.Bool.{true}
 use mathlib.Core.Path.{_≡_, refl, sym, _∙_}
 use native.Mathlib.Omega.{arith}
@@ -17,30 +17,44 @@ Inv-loop map n table i₀ i = (i ≤ n) × (allBelow i (rowTest map n (λ (i : �
 abbrev μ-loop : tie.MeasureT-loop
 μ-loop map n table i₀ i = n - i
 
+abbrev start : tie.In-loop Inv-loop μ-loop → tie.Start Inv-loop μ-loop
+start c = c .before .before .before .before
+
+-- the row of this turn is in the table
+in-table : (c : tie.In-loop Inv-loop μ-loop) → let a = start c .args in c .before .loop .i * a .n + a .n ≤ length (a .table .now)
+in-table c = row-within _ _ _ _ (c .loop-test .taken) (start c .pre .2)
+
+-- what the call says of it
+row-told : (c : tie.After-row-passes Inv-loop μ-loop) → let at = c .before .before in
+    rowTest (start at .args .map .now) (start at .args .n) (λ (i : ℕ). i) (start at .args .table .now) (at .before .loop .i) ≡ c .row-passes .result
+row-told c =
+    let at = c .before .before in
+    row-as-part _ (start at .args .n) (λ (i : ℕ). i) (start at .args .table .now) (at .before .loop .i) _ refl (c .row-passes .ensures)
+
 loop-holds : tie.Need-loop-holds Inv-loop μ-loop
 loop-holds c = (search needs, below-none _)
 
 mul-from : tie.Need-mul-from Inv-loop μ-loop
-mul-from c = omega (arith, row-within (c .before .before .before .before .args .n) (c .before .before .before .before .args .n) (c .before .loop .i) _ (c .loop-test .taken) (c .before .before .before .before .pre .2))
+mul-from c = omega (arith, in-table c)
 
 add-to : tie.Need-add-to Inv-loop μ-loop
-add-to c = omega (arith, row-within (c .before .before .before .before .args .n) (c .before .before .before .before .args .n) (c .before .loop .i) _ (c .loop-test .taken) (c .before .before .before .before .pre .2))
+add-to c = omega (arith, in-table c)
 
 sub-row-passes : tie.Need-sub-row-passes Inv-loop μ-loop
 sub-row-passes c = search needs
 
 part-row-passes-start : tie.Need-part-row-passes-start Inv-loop μ-loop
-part-row-passes-start c = omega (arith, row-within (c .before .before .before .before .args .n) (c .before .before .before .before .args .n) (c .before .loop .i) _ (c .loop-test .taken) (c .before .before .before .before .pre .2))
+part-row-passes-start c = omega (arith, in-table c)
 
 part-row-passes-end : tie.Need-part-row-passes-end Inv-loop μ-loop
-part-row-passes-end c = omega (arith, row-within (c .before .before .before .before .args .n) (c .before .before .before .before .args .n) (c .before .loop .i) _ (c .loop-test .taken) (c .before .before .before .before .pre .2))
+part-row-passes-end c = omega (arith, in-table c)
 
 row-passes-requires : tie.Need-row-passes-requires Inv-loop μ-loop
 row-passes-requires c κs = search needs
 
 returns : tie.Need-returns Inv-loop μ-loop
 returns c =
-    sym (table-is _ _ _ _ _ ∙ below-fails _ _ _ (c .before .before .before .loop-test .taken) (row-as-part _ (c .before .before .before .before .before .before .before .args .n) (λ (i : ℕ). i) (c .before .before .before .before .before .before .before .args .table .now) (c .before .before .before .before .loop .i) _ refl (c .before .row-passes .ensures) ∙ not-true _ (c .if1 .taken)))
+    sym (table-is _ _ _ _ _ ∙ below-fails _ _ _ (c .before .before .before .loop-test .taken) (row-told (c .before) ∙ not-true _ (c .if1 .taken)))
 
 add-i : tie.Need-add-i Inv-loop μ-loop
 add-i c = omega arith
@@ -49,10 +63,7 @@ loop-less : tie.Need-loop-less Inv-loop μ-loop
 loop-less c = omega arith
 
 loop-again : tie.Need-loop-again Inv-loop μ-loop
-loop-again c = (
-  omega arith,
-  below-one-more _ _ (c .before .before .before .before .loop .inv .1) (row-as-part _ (c .before .before .before .before .before .before .before .args .n) (λ (i : ℕ). i) (c .before .before .before .before .before .before .before .args .table .now) (c .before .before .before .before .loop .i) _ refl (c .before .row-passes .ensures) ∙ not-false _ (c .if1 .left)),
-)
+loop-again c = (omega arith, below-one-more _ _ (c .before .before .before .before .loop .inv .1) (row-told (c .before) ∙ not-false _ (c .if1 .left)))
 
 returns-2 : tie.Need-returns-2 Inv-loop μ-loop
 returns-2 c = sym (table-is _ _ _ _ _ ∙ below-all _ _ _ (c .before .loop .inv .0) (c .loop-test .left) (c .before .loop .inv .1))

@@ -28,8 +28,8 @@ byte-passes-requires c κs = search needs
 
 returns : tie.Need-returns Inv-loop μ-loop
 returns c =
-    let at = c .before .before .before .before in
-    sym (row-is _ _ _ ∙ below-fails _ _ _ (c .before .before .before .loop-test .taken) (sym (c .before .byte-passes .ensures) ∙ not-true _ (c .if1 .taken)))
+    sym (row-is _ _ _
+    ∙ below-fails _ _ _ (c .before .before .before .loop-test .taken) (sym (c .before .byte-passes .ensures) ∙ not-true _ (c .if1 .taken)))
 
 add-d : tie.Need-add-d Inv-loop μ-loop
 add-d c = omega arith

@@ -2,8 +2,9 @@
 -- backwarding move 2 * left: turning to the backwarding move lowers it by one, and crossing a link lowers `left`. Answer and trace go
 -- together (`Went`): a move that ends leaves the trace, and one that crosses a link has stored the node there, so that the rest of the
 -- walk is the whole. An interface that the look-up names has its row in both tables (`row-reached`).
-use Prim.Native.Nat.{ℕ, _+_, _*_, _-_, _<_, _≤_}
+use Prim.Native.Nat.{ℕ, _+_, _*_, _<_, _≤_}
 use mathlib.Core.Path.{_≡_, sym, _∙_}
+use mathlib.Core.Logic.{_≢_}
 use native.Mathlib.Omega.{arith}
 use borrow.Author.Needs.{needs}
 use borrow.Fn.Kinds.{In}
@@ -65,15 +66,21 @@ module _ (t : ℕ) where
   abbrev backwarding-answered : Type 0
   backwarding-answered = backwarding-move-lts.After-known-told backwarding-calls backwarding-move-at backwarding-move.Post
 
-  backwarding-found : (c : backwarding-answered) → foundIn (c .before .before .before .before .before .before .before .before .before .args .map .now) (c .before .before .before .before .before .before .before .before .before .args .i) (getD (c .before .before .before .before .before .before .before .before .before .args .backwarding .now) (c .before .before .before .before .before .before .before .before .before .args .f * c .before .before .before .before .before .before .before .before .before .args .n + c .before .before .before .before .before .before .before .before .before .args .d) 0) ≡ Next (c .before .v .given .0 .0) (c .before .v .given .0 .1 .0)
+  abbrev backwarding-start : backwarding-answered → backwarding-move-lts.Start backwarding-calls backwarding-move-at backwarding-move.Post
+  backwarding-start c = c .before .before .before .before .before .before .before .before .before
+
+  backwarding-found : (c : backwarding-answered)
+      → let a = backwarding-start c .args in
+      foundIn (a .map .now) (a .i) (getD (a .backwarding .now) (a .f * a .n + a .d) 0) ≡ Next (c .before .v .given .0 .0) (c .before .v .given .0 .1 .0)
   backwarding-found c = sym (c .before .before .before .look-up .ensures) ∙ c .before .v .given .1
 
   backwarding-node : (c : backwarding-answered) → c .before .v .given .0 .0 < mostNodes
   backwarding-node c = leads-on _ _ _ _ _ (backwarding-found c) .node
 
-  backwarding-row : (c : backwarding-answered) → c .before .v .given .0 .1 .0 * c .before .before .before .before .before .before .before .before .before .args .n + c .before .before .before .before .before .before .before .before .before .args .n ≤ length (c .before .before .before .before .before .before .before .before .before .args .forwarding .now)
+  backwarding-row : (c : backwarding-answered) → let a = backwarding-start c .args in c .before .v .given .0 .1 .0 * a .n + a .n ≤ length (a .forwarding .now)
   backwarding-row c =
-      row-reached _ _ _ _ _ _ _ (c .before .before .before .before .before .before .before .before .before .pre .1 .0 .0) (c .before .before .before .before .before .before .before .before .before .pre .1 .0 .3) (c .before .before .before .before .before .before .before .before .before .pre .1 .1 .0 .0) (backwarding-found c)
+      row-reached _ _ _ _ _ _ _ (backwarding-start c .pre .1 .0 .0) (backwarding-start c .pre .1 .0 .3) (backwarding-start c .pre .1 .1 .0 .0)
+      (backwarding-found c)
 
   backwarding-move-mul-look-up : backwarding-move-lts.Need-mul-look-up backwarding-calls backwarding-move-at backwarding-move.Post
   backwarding-move-mul-look-up c = search needs
@@ -100,7 +107,8 @@ module _ (t : ℕ) where
   backwarding-move-fails-requires c κs = search needs
 
   backwarding-move-returns-2 : backwarding-move-lts.Need-returns-2 backwarding-calls backwarding-move-at backwarding-move.Post
-  backwarding-move-returns-2 c = went-ends _ _ _ (around-failed _ _ _ _ _ _ _ _ _ _ _ (backwarding-found (c .before .before)) (sym (c .before .fails .ensures) ∙ c .if1 .taken))
+  backwarding-move-returns-2 c =
+      went-ends _ _ _ (around-failed _ _ _ _ _ _ _ _ _ _ _ (backwarding-found (c .before .before)) (sym (c .before .fails .ensures) ∙ c .if1 .taken))
 
   backwarding-move-add-next : backwarding-move-lts.Need-add-next backwarding-calls backwarding-move-at backwarding-move.Post
   backwarding-move-add-next c = search needs
@@ -117,7 +125,8 @@ module _ (t : ℕ) where
   backwarding-move-add-forwarding-move : backwarding-move-lts.Need-add-forwarding-move backwarding-calls backwarding-move-at backwarding-move.Post
   backwarding-move-add-forwarding-move c = omega (arith, backwarding-row (c .before .before))
 
-  backwarding-move-shared-slice-read-forwarding-move : backwarding-move-lts.Need-shared-slice-read-forwarding-move backwarding-calls backwarding-move-at backwarding-move.Post
+  backwarding-move-shared-slice-read-forwarding-move :
+      backwarding-move-lts.Need-shared-slice-read-forwarding-move backwarding-calls backwarding-move-at backwarding-move.Post
   backwarding-move-shared-slice-read-forwarding-move c = omega (arith, backwarding-row (c .before .before .before))
 
   backwarding-move-sub-forwarding-move : backwarding-move-lts.Need-sub-forwarding-move backwarding-calls backwarding-move-at backwarding-move.Post
@@ -125,13 +134,14 @@ module _ (t : ℕ) where
 
   backwarding-move-forwarding-move-requires : backwarding-move-lts.Need-forwarding-move-requires backwarding-calls backwarding-move-at backwarding-move.Post
   backwarding-move-forwarding-move-requires c κs =
-      let start = c .before .before .before .before .before .before .before .before .before .before .before .before .before in (
+      let at = c .before .before .before .before in
+      let start = backwarding-start at in (
         omega (arith, start .pre .0),
         (
-          (backwarding-node (c .before .before .before .before), start .pre .1 .0 .1, start .pre .1 .0 .2, start .pre .1 .0 .3),
+          (backwarding-node at, start .pre .1 .0 .1, start .pre .1 .0 .2, start .pre .1 .0 .3),
           (
             start .pre .1 .1 .0,
-            omega (arith, start .pre .1 .1 .1, length-set (start .args .trace .now) (start .args .hops + 1) (c .before .before .before .before .before .v .given .0 .0)),
+            omega (arith, start .pre .1 .1 .1, length-set (start .args .trace .now) (start .args .hops + 1) (at .before .v .given .0 .0)),
           ),
         ),
       )
@@ -139,32 +149,49 @@ module _ (t : ℕ) where
   backwarding-move-same-length : backwarding-move-lts.Need-same-length backwarding-calls backwarding-move-at backwarding-move.Post
   backwarding-move-same-length c =
       c .before .before .forwarding-move .kept .1 .1 .1 .1 .1 .1 .1 .1 .1 .1 .1 .0
-      ∙ length-set (c .before .before .before .before .before .before .before .before .before .before .before .before .before .before .before .before .args .trace .now) (c .before .before .before .before .before .before .before .before .before .before .before .before .before .before .before .before .args .hops + 1) (c .before .before .before .before .before .before .before .before .v .given .0 .0)
+      ∙ length-set (backwarding-start (c .before .before .before .before .before .before .before) .args .trace .now)
+      (backwarding-start (c .before .before .before .before .before .before .before) .args .hops + 1)
+      (c .before .before .before .before .before .before .before .before .v .given .0 .0)
 
   backwarding-move-returns-3 : backwarding-move-lts.Need-returns-3 backwarding-calls backwarding-move-at backwarding-move.Post
   backwarding-move-returns-3 c =
+      let at = c .before .before .before .before .before .before .before in
       went-on _ _ _
-      (around-on _ _ _ _ _ _ _ _ _ _ _ (backwarding-found (c .before .before .before .before .before .before .before)) (sym (c .before .before .before .before .before .before .fails .ensures) ∙ c .before .before .before .before .before .if1 .left))
-      (omega (arith, c .before .before .before .before .before .before .before .before .before .before .before .before .before .before .before .before .pre .1 .1 .1))
+      (around-on _ _ _ _ _ _ _ _ _ _ _ (backwarding-found at)
+      (sym (c .before .before .before .before .before .before .fails .ensures) ∙ c .before .before .before .before .before .if1 .left))
+      (omega (arith, backwarding-start at .pre .1 .1 .1))
       (c .before .before .forwarding-move .ensures)
 
   -- where the entry that it reads has an answer: the look-up has found it, so its node is below the limit and its interface has rows
   abbrev forwarding-answered : Type 0
   forwarding-answered = forwarding-move-lts.After-known-told forwarding-calls forwarding-move-at forwarding-move.Post
 
-  forwarding-found : (c : forwarding-answered) → foundIn (c .before .before .before .before .before .before .before .before .before .before .args .map .now) (c .before .before .before .before .before .before .before .before .before .before .args .i) (c .before .before .before .before .before .before .before .before .before .before .args .byte) ≡ Next (c .before .v .given .0 .0) (c .before .v .given .0 .1 .0)
+  abbrev forwarding-start : forwarding-answered → forwarding-move-lts.Start forwarding-calls forwarding-move-at forwarding-move.Post
+  forwarding-start c = c .before .before .before .before .before .before .before .before .before .before
+
+  forwarding-found : (c : forwarding-answered)
+      → let a = forwarding-start c .args in foundIn (a .map .now) (a .i) (a .byte) ≡ Next (c .before .v .given .0 .0) (c .before .v .given .0 .1 .0)
   forwarding-found c = sym (c .before .before .before .look-up .ensures) ∙ c .before .v .given .1
 
   forwarding-node : (c : forwarding-answered) → c .before .v .given .0 .0 < mostNodes
   forwarding-node c = leads-on _ _ _ _ _ (forwarding-found c) .node
 
-  forwarding-row : (c : forwarding-answered) → c .before .v .given .0 .1 .0 * c .before .before .before .before .before .before .before .before .before .before .args .n + c .before .before .before .before .before .before .before .before .before .before .args .n ≤ length (c .before .before .before .before .before .before .before .before .before .before .args .forwarding .now)
+  forwarding-row : (c : forwarding-answered) → let a = forwarding-start c .args in c .before .v .given .0 .1 .0 * a .n + a .n ≤ length (a .forwarding .now)
   forwarding-row c =
-      row-reached _ _ _ _ _ _ _ (c .before .before .before .before .before .before .before .before .before .before .pre .1 .0 .0) (c .before .before .before .before .before .before .before .before .before .before .pre .1 .0 .3) (c .before .before .before .before .before .before .before .before .before .before .pre .1 .1 .0 .0) (forwarding-found c)
+      row-reached _ _ _ _ _ _ _ (forwarding-start c .pre .1 .0 .0) (forwarding-start c .pre .1 .0 .3) (forwarding-start c .pre .1 .1 .0 .0)
+      (forwarding-found c)
 
-  forwarding-row-back : (c : forwarding-answered) → c .before .v .given .0 .1 .0 * c .before .before .before .before .before .before .before .before .before .before .args .n + c .before .before .before .before .before .before .before .before .before .before .args .n ≤ length (c .before .before .before .before .before .before .before .before .before .before .args .backwarding .now)
+  forwarding-row-back : (c : forwarding-answered) → let a = forwarding-start c .args in c .before .v .given .0 .1 .0 * a .n + a .n ≤ length (a .backwarding .now)
   forwarding-row-back c =
-      row-reached _ _ _ _ _ _ _ (c .before .before .before .before .before .before .before .before .before .before .pre .1 .0 .0) (c .before .before .before .before .before .before .before .before .before .before .pre .1 .0 .3) (c .before .before .before .before .before .before .before .before .before .before .pre .1 .1 .0 .1) (forwarding-found c)
+      row-reached _ _ _ _ _ _ _ (forwarding-start c .pre .1 .0 .0) (forwarding-start c .pre .1 .0 .3) (forwarding-start c .pre .1 .1 .0 .1)
+      (forwarding-found c)
+
+  -- the two tests before that
+  forwarding-under : (c : forwarding-answered) → let a = forwarding-start c .args in a .i ≢ a .d
+  forwarding-under c = c .before .before .before .before .before .if1 .left
+
+  forwarding-some : (c : forwarding-answered) → forwarding-start c .args .left ≢ 0
+  forwarding-some c = c .before .before .before .before .if2 .left
 
   forwarding-move-returns : forwarding-move-lts.Need-returns forwarding-calls forwarding-move-at forwarding-move.Post
   forwarding-move-returns c = went-ends _ _ _ (trail-delivered _ _ _ _ _ _ _ _ _ _ (c .if1 .taken))
@@ -182,20 +209,23 @@ module _ (t : ℕ) where
   forwarding-move-enum-told c = search needs
 
   forwarding-move-returns-3 : forwarding-move-lts.Need-returns-3 forwarding-calls forwarding-move-at forwarding-move.Post
-  forwarding-move-returns-3 c = went-ends _ _ _ (trail-lost _ _ _ _ _ _ _ _ _ (c .before .before .before .before .if1 .left) _ (c .before .before .before .if2 .left) (sym (c .before .before .look-up .ensures) ∙ c .enum-told .given .1))
+  forwarding-move-returns-3 c =
+      went-ends _ _ _ (trail-lost _ _ _ _ _ _ _ _ _ (c .before .before .before .before .if1 .left) _ (c .before .before .before .if2 .left)
+      (sym (c .before .before .look-up .ensures) ∙ c .enum-told .given .1))
 
   forwarding-move-fails-requires : forwarding-move-lts.Need-fails-requires forwarding-calls forwarding-move-at forwarding-move.Post
   forwarding-move-fails-requires c κs = search needs
 
   forwarding-move-backwarding-move-requires : forwarding-move-lts.Need-backwarding-move-requires forwarding-calls forwarding-move-at forwarding-move.Post
   forwarding-move-backwarding-move-requires c κs =
-      let start = c .before .before .before .before .before .before .before .before .before .before .before .before .before in (
+      let at = c .before .before .before in
+      let start = forwarding-start at in (
         omega (arith, start .pre .0),
         (
           start .pre .1 .0,
           (
             start .pre .1 .1 .0,
-            (omega (arith, c .before .before .before .before .before .before .before .if2 .left), start .pre .1 .1 .1, omega (arith, forwarding-row-back (c .before .before .before))),
+            (omega (arith, forwarding-some at), start .pre .1 .1 .1, omega (arith, forwarding-row-back at)),
           ),
         ),
       )
@@ -205,8 +235,10 @@ module _ (t : ℕ) where
 
   forwarding-move-returns-4 : forwarding-move-lts.Need-returns-4 forwarding-calls forwarding-move-at forwarding-move.Post
   forwarding-move-returns-4 c =
+      let at = c .before .before .before .before .before .before in
       rw
-      (trail-turns _ _ _ _ _ _ _ _ _ (c .before .before .before .before .before .before .before .before .before .before .before .if1 .left) _ _ (forwarding-found (c .before .before .before .before .before .before)) _ (c .before .before .before .before .before .before .before .before .before .before .if2 .left) (sym (c .before .before .before .before .before .fails .ensures) ∙ c .before .before .before .before .if3 .taken))
+      (trail-turns _ _ _ _ _ _ _ _ _ (forwarding-under at) _ _ (forwarding-found at) _ (forwarding-some at)
+      (sym (c .before .before .before .before .before .fails .ensures) ∙ c .before .before .before .before .if3 .taken))
       (c .before .before .backwarding-move .ensures)
 
   forwarding-move-add-next : forwarding-move-lts.Need-add-next forwarding-calls forwarding-move-at forwarding-move.Post
@@ -224,7 +256,8 @@ module _ (t : ℕ) where
   forwarding-move-add-forwarding-move : forwarding-move-lts.Need-add-forwarding-move forwarding-calls forwarding-move-at forwarding-move.Post
   forwarding-move-add-forwarding-move c = omega (arith, forwarding-row (c .before .before))
 
-  forwarding-move-shared-slice-read-forwarding-move : forwarding-move-lts.Need-shared-slice-read-forwarding-move forwarding-calls forwarding-move-at forwarding-move.Post
+  forwarding-move-shared-slice-read-forwarding-move :
+      forwarding-move-lts.Need-shared-slice-read-forwarding-move forwarding-calls forwarding-move-at forwarding-move.Post
   forwarding-move-shared-slice-read-forwarding-move c = omega (arith, forwarding-row (c .before .before .before))
 
   forwarding-move-sub-forwarding-move : forwarding-move-lts.Need-sub-forwarding-move forwarding-calls forwarding-move-at forwarding-move.Post
@@ -232,13 +265,14 @@ module _ (t : ℕ) where
 
   forwarding-move-forwarding-move-requires : forwarding-move-lts.Need-forwarding-move-requires forwarding-calls forwarding-move-at forwarding-move.Post
   forwarding-move-forwarding-move-requires c κs =
-      let start = c .before .before .before .before .before .before .before .before .before .before .before .before .before .before in (
+      let at = c .before .before .before .before in
+      let start = forwarding-start at in (
         omega (arith, start .pre .0),
         (
-          (forwarding-node (c .before .before .before .before), start .pre .1 .0 .1, start .pre .1 .0 .2, start .pre .1 .0 .3),
+          (forwarding-node at, start .pre .1 .0 .1, start .pre .1 .0 .2, start .pre .1 .0 .3),
           (
             start .pre .1 .1 .0,
-            omega (arith, start .pre .1 .1 .1, length-set (start .args .trace .now) (start .args .hops + 1) (c .before .before .before .before .before .v .given .0 .0)),
+            omega (arith, start .pre .1 .1 .1, length-set (start .args .trace .now) (start .args .hops + 1) (at .before .v .given .0 .0)),
           ),
         ),
       )
@@ -246,13 +280,17 @@ module _ (t : ℕ) where
   forwarding-move-same-length-2 : forwarding-move-lts.Need-same-length-2 forwarding-calls forwarding-move-at forwarding-move.Post
   forwarding-move-same-length-2 c =
       c .before .before .forwarding-move .kept .1 .1 .1 .1 .1 .1 .1 .1 .1 .1 .1 .0
-      ∙ length-set (c .before .before .before .before .before .before .before .before .before .before .before .before .before .before .before .before .before .args .trace .now) (c .before .before .before .before .before .before .before .before .before .before .before .before .before .before .before .before .before .args .hops + 1) (c .before .before .before .before .before .before .before .before .v .given .0 .0)
+      ∙ length-set (forwarding-start (c .before .before .before .before .before .before .before) .args .trace .now)
+      (forwarding-start (c .before .before .before .before .before .before .before) .args .hops + 1)
+      (c .before .before .before .before .before .before .before .before .v .given .0 .0)
 
   forwarding-move-returns-5 : forwarding-move-lts.Need-returns-5 forwarding-calls forwarding-move-at forwarding-move.Post
   forwarding-move-returns-5 c =
+      let at = c .before .before .before .before .before .before .before in
       went-on _ _ _
-      (trail-on _ _ _ _ _ _ _ _ _ (c .before .before .before .before .before .before .before .before .before .before .before .before .if1 .left) _ _ (forwarding-found (c .before .before .before .before .before .before .before)) _ (c .before .before .before .before .before .before .before .before .before .before .before .if2 .left) (sym (c .before .before .before .before .before .before .fails .ensures) ∙ c .before .before .before .before .before .if3 .left))
-      (omega (arith, c .before .before .before .before .before .before .before .before .before .before .before .before .before .before .before .before .before .pre .1 .1 .1, c .before .before .before .before .before .before .before .before .before .before .before .if2 .left))
+      (trail-on _ _ _ _ _ _ _ _ _ (forwarding-under at) _ _ (forwarding-found at) _ (forwarding-some at)
+      (sym (c .before .before .before .before .before .before .fails .ensures) ∙ c .before .before .before .before .before .if3 .left))
+      (omega (arith, forwarding-start at .pre .1 .1 .1, forwarding-some at))
       (c .before .before .forwarding-move .ensures)
 
 pub +backwarding-move+forwarding-move-spec : {M : Type 1} → statement M

@@ -1,12 +1,11 @@
 -- The refusals in the order of the definition; then the step at the start node or at the head of the interface, which is the step by
 -- the entries as the look-up is the interface between two nodes.
-use Prim.Native.Nat.{_≤_, _<_, _*_}
+use Prim.Native.Nat.{_<_, _*_}
 use mathlib.Core.Path.{_≡_, sym, _∙_}
 use native.Mathlib.Omega.{arith}
 use borrow.Author.Needs.{needs}
 use lib.ListN.{length}
 use Rattle.net.specs.Check.{Accepted}
-use Rattle.net.specs.Limits.{mostNodes, mostLinks}
 use Rattle.net.specs.Refusals.{accepted}
 use Rattle.walk.specs.Step.{askedNumber, stepOf, stepAnswer}
 use Rattle.walk.proofs.Asking.{asked-start, asked-arrival, asked-destination}
@@ -47,10 +46,20 @@ known c =
 destination : (c : tie.Else3) → let a = start (network-taken (question-taken c)) .args in a .destination .0 < a .n
 destination c = asked-destination _ _ _ _ _ (question (question-taken c))
 
+start-below : (c : tie.After-known-told)
+    → c .before .asked .given .0 .0 .0 < start (network-taken (question-taken (c .before .before .before))) .args .n
+start-below c = asked-start _ _ _ _ _ (question (question-taken (c .before .before .before))) _ (c .before .asked .given .1)
+
+arrival-below : (c : tie.After-known-told2)
+    → c .before .asked2 .given .0 .0 .0 < 2 * length (start (network-taken (question-taken (c .before .before .before))) .args .low .now)
+arrival-below c = asked-arrival _ _ _ _ _ (question (question-taken (c .before .before .before))) _ (c .before .asked2 .given .1)
+
 taken : (c : tie.Else3)
     → let a = start (network-taken (question-taken c)) .args in
-    stepOf (a .n) (a .low .now) (a .high .now) (a .routing .now) (a .forwarding .now) (a .backwarding .now) (a .asked) (a .destination .0) (a .failure)
-    ≡ stepAnswer (a .n) (a .low .now) (a .high .now) (a .weight .now) (a .routing .now) (a .forwarding .now) (a .backwarding .now) (a .asked) (a .destination .0) (a .failure)
+    stepOf (a .n) (a .low .now) (a .high .now) (a .routing .now) (a .forwarding .now) (a .backwarding .now)
+    (a .asked) (a .destination .0) (a .failure)
+    ≡ stepAnswer (a .n) (a .low .now) (a .high .now) (a .weight .now) (a .routing .now) (a .forwarding .now) (a .backwarding .now)
+    (a .asked) (a .destination .0) (a .failure)
 taken c =
     let asked = question-taken c in
     let at = network-taken asked in
@@ -96,23 +105,37 @@ slice-aggregate-step-at c = search needs
 mul-step-at : tie.Need-mul-step-at
 mul-step-at c =
     let at = c .before .before .before .before in
-    omega (arith, destination at, known at .network .few-nodes, rows-few (c .before .before .asked .given .0 .0 .0) _ (omega (arith, asked-start _ _ _ _ _ (question (question-taken (c .before .before .before .before))) _ (c .before .before .asked .given .1), known at .network .few-nodes)) (known at .network .few-nodes))
+    let few = known at .network .few-nodes in
+    omega (
+      arith,
+      destination at,
+      few,
+      rows-few (c .before .before .asked .given .0 .0 .0) _
+          (omega (arith, start-below (c .before), known at .network .few-nodes)) few,
+    )
 
 add-step-at : tie.Need-add-step-at
 add-step-at c =
     let at = c .before .before .before .before in
-    omega (arith, destination at, known at .network .few-nodes, rows-few (c .before .before .asked .given .0 .0 .0) _ (omega (arith, asked-start _ _ _ _ _ (question (question-taken (c .before .before .before .before))) _ (c .before .before .asked .given .1), known at .network .few-nodes)) (known at .network .few-nodes))
+    let few = known at .network .few-nodes in
+    omega (
+      arith,
+      destination at,
+      few,
+      rows-few (c .before .before .asked .given .0 .0 .0) _
+          (omega (arith, start-below (c .before), known at .network .few-nodes)) few,
+    )
 
 shared-slice-read-step-at : tie.Need-shared-slice-read-step-at
 shared-slice-read-step-at c =
     let at = c .before .before .before .before .before in
-    omega (arith, destination at, row-within (start (network-taken (question-taken at)) .args .n) _ _ _ (asked-start _ _ _ _ _ (question (question-taken (c .before .before .before .before .before))) _ (c .before .before .before .asked .given .1)) (known at .routes))
+    omega (arith, destination at, row-within (start (network-taken (question-taken at)) .args .n) _ _ _ (start-below (c .before .before)) (known at .routes))
 
 step-at-requires : tie.Need-step-at-requires
 step-at-requires c κs =
     let at = c .before .before .before .before .before in (
       (
-        omega (arith, asked-start _ _ _ _ _ (question (question-taken (c .before .before .before .before .before))) _ (c .before .before .before .asked .given .1), known at .network .few-nodes),
+        omega (arith, start-below (c .before .before), known at .network .few-nodes),
         destination at,
         known at .network .few-nodes,
         known at .map .whole,
@@ -132,23 +155,48 @@ slice-aggregate-step-at-2 c = search needs
 mul-step-at-2 : tie.Need-mul-step-at-2
 mul-step-at-2 c =
     let at = c .before .before .before .before .before in
-    omega (arith, destination at, known at .network .few-nodes, rows-few (c .before .before .before .asked2 .given .0 .0 .0) _ (omega (arith, asked-arrival _ _ _ _ _ (question (question-taken (c .before .before .before .before .before))) _ (c .before .before .before .asked2 .given .1), known at .network .few-links)) (known at .network .few-nodes))
+    let few = known at .network .few-nodes in
+    omega (
+      arith,
+      destination at,
+      few,
+      rows-few (c .before .before .before .asked2 .given .0 .0 .0) _
+          (omega (arith, arrival-below (c .before .before), known at .network .few-links)) few,
+    )
 
 add-step-at-2 : tie.Need-add-step-at-2
 add-step-at-2 c =
     let at = c .before .before .before .before .before in
-    omega (arith, destination at, known at .network .few-nodes, rows-few (c .before .before .before .asked2 .given .0 .0 .0) _ (omega (arith, asked-arrival _ _ _ _ _ (question (question-taken (c .before .before .before .before .before))) _ (c .before .before .before .asked2 .given .1), known at .network .few-links)) (known at .network .few-nodes))
+    let few = known at .network .few-nodes in
+    omega (
+      arith,
+      destination at,
+      few,
+      rows-few (c .before .before .before .asked2 .given .0 .0 .0) _
+          (omega (arith, arrival-below (c .before .before), known at .network .few-links)) few,
+    )
 
 shared-slice-read-step-at-2 : tie.Need-shared-slice-read-step-at-2
 shared-slice-read-step-at-2 c =
     let at = c .before .before .before .before .before .before in
-    omega (arith, destination at, row-within (start (network-taken (question-taken at)) .args .n) _ _ _ (asked-arrival _ _ _ _ _ (question (question-taken (c .before .before .before .before .before .before))) _ (c .before .before .before .before .asked2 .given .1)) (known at .forwards))
+    omega (
+      arith,
+      destination at,
+      row-within (start (network-taken (question-taken at)) .args .n) _ _ _ (arrival-below (c .before .before .before))
+          (known at .forwards),
+    )
 
 step-at-requires-2 : tie.Need-step-at-requires-2
 step-at-requires-2 c κs =
     let at = c .before .before .before .before .before .before in (
       (
-        omega (arith, c .before .before .head-of .ensures, head-below _ _ _ _ (known at .network) _ (asked-arrival _ _ _ _ _ (question (question-taken (c .before .before .before .before .before .before))) _ (c .before .before .before .before .asked2 .given .1)), known at .network .few-nodes),
+        omega (
+          arith,
+          c .before .before .head-of .ensures,
+          head-below _ _ _ _ (known at .network) _
+              (arrival-below (c .before .before .before)),
+          known at .network .few-nodes,
+        ),
         destination at,
         known at .network .few-nodes,
         known at .map .whole,
@@ -159,13 +207,17 @@ step-at-requires-2 c κs =
 returns-4 : tie.Need-returns-4
 returns-4 c =
     c .step-at .ensures
-    ∙ start-steps _ _ _ _ _ (known (c .before .before .before .before .before .before) .network) (known (c .before .before .before .before .before .before) .map) _ _ _ _ _ _ _ (c .before .before .before .before .asked .given .1) (asked-start _ _ _ _ _ (question (question-taken (c .before .before .before .before .before .before))) _ (c .before .before .before .before .asked .given .1))
+    ∙ start-steps _ _ _ _ _ (known (c .before .before .before .before .before .before) .network)
+    (known (c .before .before .before .before .before .before) .map) _ _ _ _ _ _ _ (c .before .before .before .before .asked .given .1)
+    (start-below (c .before .before .before))
     ∙ taken (c .before .before .before .before .before .before)
 
 returns-5 : tie.Need-returns-5
 returns-5 c =
     c .step-at2 .ensures
-    ∙ arrival-steps _ _ _ _ _ (known (c .before .before .before .before .before .before .before) .network) (known (c .before .before .before .before .before .before .before) .map) _ _ _ _ _ _ _ (c .before .before .before .before .before .asked2 .given .1) (asked-arrival _ _ _ _ _ (question (question-taken (c .before .before .before .before .before .before .before))) _ (c .before .before .before .before .before .asked2 .given .1))
+    ∙ arrival-steps _ _ _ _ _ (known (c .before .before .before .before .before .before .before) .network)
+    (known (c .before .before .before .before .before .before .before) .map) _ _ _ _ _ _ _
+    (c .before .before .before .before .before .asked2 .given .1) (arrival-below (c .before .before .before .before))
     (c .before .before .before .head-of .ensures)
     ∙ taken (c .before .before .before .before .before .before .before)
 

@@ -30,10 +30,16 @@ fails-requires : tie.Need-fails-requires
 fails-requires c κs = search needs
 
 returns-2 : tie.Need-returns-2
-returns-2 c = sym (around-fails _ _ _ _ (sym (c .before .before .before .before .before .look-up .ensures) ∙ c .before .before .before .v .given .1) (sym (c .before .fails .ensures) ∙ c .if1 .taken))
+returns-2 c =
+    sym (around-fails _ _ _ _
+    (sym (c .before .before .before .before .before .look-up .ensures) ∙ c .before .before .before .v .given .1)
+    (sym (c .before .fails .ensures) ∙ c .if1 .taken))
 
 returns-3 : tie.Need-returns-3
-returns-3 c = sym (around-crosses _ _ _ _ (sym (c .before .before .before .before .before .look-up .ensures) ∙ c .before .before .before .v .given .1) (sym (c .before .fails .ensures) ∙ c .if1 .left))
+returns-3 c =
+    sym (around-crosses _ _ _ _
+    (sym (c .before .before .before .before .before .look-up .ensures) ∙ c .before .before .before .v .given .1)
+    (sym (c .before .fails .ensures) ∙ c .if1 .left))
 
 pub step-around-spec : {M : Type 1} → statement M
 step-around-spec =

@@ -26,17 +26,29 @@ fails-requires : tie.Need-fails-requires
 fails-requires c κs = search needs
 
 step-around-requires : tie.Need-step-around-requires
-step-around-requires c κs = (
-  c .before .before .before .before .before .before .before .before .before .pre .0 .0,
-  c .before .before .before .before .before .before .before .before .before .pre .0 .3,
-  omega (arith, row-reached _ _ _ _ _ _ _ (c .before .before .before .before .before .before .before .before .before .pre .0 .0) (c .before .before .before .before .before .before .before .before .before .pre .0 .3) (c .before .before .before .before .before .before .before .before .before .pre .1) (sym (c .before .before .before .before .before .look-up .ensures) ∙ c .before .before .before .v .given .1)),
-)
+step-around-requires c κs =
+    let start = c .before .before .before .before .before .before .before .before .before in (
+      start .pre .0 .0,
+      start .pre .0 .3,
+      omega (
+        arith,
+        row-reached _ _ _ _ _ _ _ (start .pre .0 .0) (start .pre .0 .3) (start .pre .1)
+            (sym (c .before .before .before .before .before .look-up .ensures) ∙ c .before .before .before .v .given .1),
+      ),
+    )
 
 returns-3 : tie.Need-returns-3
-returns-3 c = c .step-around .ensures ∙ sym (step-turns _ _ _ _ _ _ _ (c .before .before .before .before .before .before .before .if1 .left) _ _ (sym (c .before .before .before .before .before .before .look-up .ensures) ∙ c .before .before .before .before .v .given .1) (sym (c .before .before .fails .ensures) ∙ c .before .if2 .taken))
+returns-3 c =
+    c .step-around .ensures
+    ∙ sym (step-turns _ _ _ _ _ _ _ (c .before .before .before .before .before .before .before .if1 .left) _ _
+    (sym (c .before .before .before .before .before .before .look-up .ensures) ∙ c .before .before .before .before .v .given .1)
+    (sym (c .before .before .fails .ensures) ∙ c .before .if2 .taken))
 
 returns-4 : tie.Need-returns-4
-returns-4 c = sym (step-crosses _ _ _ _ _ _ _ (c .before .before .before .before .before .before .if1 .left) _ _ (sym (c .before .before .before .before .before .look-up .ensures) ∙ c .before .before .before .v .given .1) (sym (c .before .fails .ensures) ∙ c .if2 .left))
+returns-4 c =
+    sym (step-crosses _ _ _ _ _ _ _ (c .before .before .before .before .before .before .if1 .left) _ _
+    (sym (c .before .before .before .before .before .look-up .ensures) ∙ c .before .before .before .v .given .1)
+    (sym (c .before .fails .ensures) ∙ c .if2 .left))
 
 pub step-at-spec : {M : Type 1} → statement M
 step-at-spec =

@@ -1,0 +1,56 @@
+// The parts of records that stand beside a network. What the input lacks is 0.
+use net::Failure;
+use net::Interface;
+use net::Link;
+use net::Node;
+use text::front_room;
+use text::number_of;
+use text::read;
+use walk::Asked;
+
+// A number of so many bytes, at most 8, low byte first.
+pub fn read_number(width: usize) -> usize {
+    let mut bytes = [0u8; 8];
+    read(front_room(&mut bytes, width));
+    number_of(&bytes) as usize
+}
+
+pub fn read_byte() -> u8 {
+    let mut bytes = [0u8; 1];
+    read(&mut bytes);
+    bytes[0]
+}
+
+// A lent table: so many bytes from the start.
+pub struct Table {
+    pub length: usize,
+    pub bytes: [u8; 5000],
+}
+
+pub fn read_table() -> Table {
+    let length = read_number(2);
+    let mut bytes = [0u8; 5000];
+    read(front_room(&mut bytes, length));
+    Table {
+        length: length,
+        bytes: bytes,
+    }
+}
+
+pub fn read_failure() -> Failure {
+    let kind = read_byte();
+    let link = read_number(8);
+    if kind == 0 {
+        return Failure::Nothing;
+    }
+    Failure::One(Link(link))
+}
+
+pub fn read_asked() -> Asked {
+    let kind = read_byte();
+    let number = read_number(8);
+    if kind == 0 {
+        return Asked::Start(Node(number));
+    }
+    Asked::Arrival(Interface(number))
+}

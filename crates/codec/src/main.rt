@@ -1,0 +1,167 @@
+// A test program: runs the reader, the check and the writer on a batch of records from standard input, a line of answers for each,
+// so that one run compares thousands of them with the second program. Records stand one after another until the input ends:
+//   P  a stored plan: length (2 bytes, low byte first), then that many bytes, at most 1,024.
+//      Answer: `refused NUMBER at PLACE`, or `nodes N links M`, for each link ` LOW-HIGH:WEIGHT`, then ` plan HEX`, the bytes that the
+//      writer makes of the network, and ` short NUMBER`, its refusal of a room one byte too short.
+//   N  a network in memory: node count (8 bytes, low byte first), three row lengths (a byte each, at most 80), the low ends and the high
+//      ends (a byte each), the weights (4 bytes each, low byte first), the room's length (2 bytes, at most 400).
+//      Answer: `network NUMBER at PLACE write NUMBER at PLACE count COUNT room HEX`; the room starts out as bytes EE.
+// Anything else ends the run.
+use net::end_at;
+use text::decimal;
+use text::front;
+use text::front_room;
+use text::front_weights;
+use text::hex;
+use text::number_of;
+use text::read;
+use text::read_network;
+use text::text;
+
+fn print_verdict(number: u8, place: usize) {
+    decimal(number as usize);
+    text(b" at ");
+    decimal(place);
+}
+
+fn print_weight(weight: u32) {
+    decimal(weight as usize);
+}
+
+fn print_links(low: &[u8], high: &[u8], weight: &[u32]) {
+    let mut k = 0;
+    while k < weight.len() {
+        text(b" ");
+        decimal(end_at(low, k));
+        text(b"-");
+        decimal(end_at(high, k));
+        text(b":");
+        print_weight(weight[k]);
+        k += 1;
+    }
+}
+
+fn print_written(n: usize, low: &[u8], high: &[u8], weight: &[u32]) {
+    let mut room = [0u8; 400];
+    let written = plan::write_plan(n, low, high, weight, &mut room);
+    let count = written.count;
+    if count == 0 {
+        return;
+    }
+    text(b" plan ");
+    hex(front(&room, count));
+    let mut small = [0u8; 400];
+    let refused = plan::write_plan(n, low, high, weight, front_room(&mut small, count - 1));
+    text(b" short ");
+    decimal(refused.number as usize);
+}
+
+fn print_network(n: usize, low: &[u8], high: &[u8], weight: &[u32]) {
+    text(b"nodes ");
+    decimal(n);
+    text(b" links ");
+    decimal(weight.len());
+    print_links(low, high, weight);
+    print_written(n, low, high, weight);
+}
+
+fn print_plan(s: &[u8]) {
+    let reading = plan::read_plan(s);
+    if reading.number != 0 {
+        text(b"refused ");
+        print_verdict(reading.number, reading.place);
+        return;
+    }
+    let network = reading.network;
+    let links = network.links;
+    let low = network.low;
+    let high = network.high;
+    let weight = network.weight;
+    print_network(
+        network.nodes,
+        front(&low, links),
+        front(&high, links),
+        front_weights(&weight, links),
+    );
+}
+
+fn plan_record() -> bool {
+    let mut head = [0u8; 2];
+    if !read(&mut head) {
+        return false;
+    }
+    let length = number_of(&head) as usize;
+    let mut bytes = [0u8; 1024];
+    if bytes.len() < length {
+        return false;
+    }
+    if !read(front_room(&mut bytes, length)) {
+        return false;
+    }
+    print_plan(front(&bytes, length));
+    text(b"\n");
+    true
+}
+
+fn print_checks(n: usize, low: &[u8], high: &[u8], weight: &[u32], room: &mut [u8]) {
+    let verdict = net::check_network(n, low, high, weight);
+    text(b"network ");
+    print_verdict(verdict.number, verdict.place);
+    let written = plan::write_plan(n, low, high, weight, room);
+    text(b" write ");
+    print_verdict(written.number, written.place);
+    text(b" count ");
+    decimal(written.count);
+    text(b" room ");
+    hex(room);
+    text(b"\n");
+}
+
+fn network_record() -> bool {
+    let rows = read_network();
+    let mut tail = [0u8; 2];
+    if !read(&mut tail) {
+        return false;
+    }
+    let length = number_of(&tail) as usize;
+    let mut room = [238u8; 400];
+    if room.len() < length {
+        return false;
+    }
+    let low = rows.low;
+    let high = rows.high;
+    let weight = rows.weight;
+    print_checks(
+        rows.nodes,
+        front(&low, rows.lows),
+        front(&high, rows.highs),
+        front_weights(&weight, rows.weights),
+        front_room(&mut room, length),
+    );
+    true
+}
+
+fn record() -> bool {
+    let mut kind = [0u8; 1];
+    if !read(&mut kind) {
+        return false;
+    }
+    if kind[0] == b'P' {
+        return plan_record();
+    }
+    if kind[0] == b'N' {
+        return network_record();
+    }
+    false
+}
+
+// At most a million records, so that the run ends on any input.
+fn main() {
+    let mut left: usize = 1000000;
+    while 0 < left {
+        if !record() {
+            return;
+        }
+        left -= 1;
+    }
+}

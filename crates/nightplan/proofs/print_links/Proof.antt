@@ -1,0 +1,79 @@
+-- `print_links` is safe and ends: links are counted up to the last, and a line is read only where there is one.
+use borrow.Author.Needs.{needs}
+use Prim.Native.Nat.{_≤_, _-_}
+use lib.ListN.{length}
+use Rattle.nightplan.proofs.print_links.Statement.{statement}
+use Rattle.nightplan.proofs.print_links.Tie as tie
+
+abbrev Inv-loop : tie.InvT-loop
+Inv-loop low high lines k₀ t7 k = k ≤ length low
+
+abbrev μ-loop : tie.MeasureT-loop
+μ-loop low high lines k₀ t7 k = length low - k
+
+loop-holds : tie.Need-loop-holds Inv-loop μ-loop
+loop-holds c = search needs
+
+add-next : tie.Need-add-next Inv-loop μ-loop
+add-next c = search needs
+
+returns : tie.Need-returns Inv-loop μ-loop
+returns c = search needs
+
+end-at-requires : tie.Need-end-at-requires Inv-loop μ-loop
+end-at-requires c κs = search needs
+
+decimal-requires : tie.Need-decimal-requires Inv-loop μ-loop
+decimal-requires c κs = search needs
+
+slice-aggregate-text : tie.Need-slice-aggregate-text Inv-loop μ-loop
+slice-aggregate-text c = search needs
+
+text-requires : tie.Need-text-requires Inv-loop μ-loop
+text-requires c κs = search needs
+
+end-at-requires-2 : tie.Need-end-at-requires-2 Inv-loop μ-loop
+end-at-requires-2 c κs = search needs
+
+decimal-requires-2 : tie.Need-decimal-requires-2 Inv-loop μ-loop
+decimal-requires-2 c κs = search needs
+
+mul-print-line : tie.Need-mul-print-line Inv-loop μ-loop
+mul-print-line c = search needs
+
+array-copy-out-print-line : tie.Need-array-copy-out-print-line Inv-loop μ-loop
+array-copy-out-print-line c = search needs
+
+print-line-requires : tie.Need-print-line-requires Inv-loop μ-loop
+print-line-requires c κs = search needs
+
+loop-less : tie.Need-loop-less Inv-loop μ-loop
+loop-less c = search needs
+
+loop-again : tie.Need-loop-again Inv-loop μ-loop
+loop-again c = search needs
+
+returns-2 : tie.Need-returns-2 Inv-loop μ-loop
+returns-2 c = search needs
+
+pub print-links-spec : {M : Type 1} → statement M
+print-links-spec =
+    tie.close
+    (tie.spec
+    Inv-loop
+    μ-loop
+    loop-holds
+    add-next
+    returns
+    end-at-requires
+    decimal-requires
+    slice-aggregate-text
+    text-requires
+    end-at-requires-2
+    decimal-requires-2
+    mul-print-line
+    array-copy-out-print-line
+    print-line-requires
+    loop-less
+    loop-again
+    returns-2)

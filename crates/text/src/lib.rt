@@ -1,0 +1,130 @@
+// What the programs share: bytes and numbers to standard output, bytes, numbers and rows from standard input, and the front of a row.
+use libc::STDIN_FILENO;
+use libc::STDOUT_FILENO;
+
+// Writes the bytes to standard output.
+pub fn text(bytes: &[u8]) {
+    io::write_all(STDOUT_FILENO, bytes);
+}
+
+// Writes the number in decimal digits.
+pub fn decimal(n: usize) {
+    io::print_decimal(STDOUT_FILENO, n as u64);
+}
+
+// Writes each byte as two hexadecimal digits in lower case.
+pub fn hex(bytes: &[u8]) {
+    let mut i = 0;
+    while i < bytes.len() {
+        io::print_hex(STDOUT_FILENO, wide(bytes[i]) as u64, 2);
+        i += 1;
+    }
+}
+
+// The bytes as one number, low byte first; those past the eighth do not count.
+pub fn number_of(bytes: &[u8]) -> u64 {
+    let mut value: u64 = 0;
+    let mut i = bytes.len();
+    while 0 < i {
+        i -= 1;
+        value = shifted(value, bytes[i]);
+    }
+    value
+}
+
+// The number moved up by one byte, with this byte below it.
+fn shifted(value: u64, byte: u8) -> u64 {
+    value % 72057594037927936 * 256 + byte as u64
+}
+
+fn wide(byte: u8) -> usize {
+    byte as usize
+}
+
+// Fills the bytes from standard input: false where the input ends before.
+pub fn read(bytes: &mut [u8]) -> bool {
+    io::read_full(STDIN_FILENO, bytes) == bytes.len()
+}
+
+// Fills the first n weights, 4 bytes each, low byte first: false where the input ends before, or there are fewer.
+pub fn read_weights(weights: &mut [u32], n: usize) -> bool {
+    let mut i = 0;
+    while i < n {
+        if weights.len() <= i {
+            return false;
+        }
+        let mut bytes = [0u8; 4];
+        if !read(&mut bytes) {
+            return false;
+        }
+        weights[i] = low_half(number_of(&bytes));
+        i += 1;
+    }
+    true
+}
+
+fn low_half(n: u64) -> u32 {
+    (n % 4294967296) as u32
+}
+
+// A network in memory as a batch has it, its rows of any length up to 255.
+pub struct Rows {
+    pub nodes: usize,
+    pub lows: usize,
+    pub highs: usize,
+    pub weights: usize,
+    pub low: [u8; 256],
+    pub high: [u8; 256],
+    pub weight: [u32; 256],
+}
+
+// Reads a network: node count (8 bytes, low byte first), three row lengths (a byte each), the low ends and the high ends (a byte each),
+// the weights (4 bytes each, low byte first). What the input lacks is 0.
+pub fn read_network() -> Rows {
+    let mut count = [0u8; 8];
+    read(&mut count);
+    let mut lengths = [0u8; 3];
+    read(&mut lengths);
+    let lows = wide(lengths[0]);
+    let highs = wide(lengths[1]);
+    let weights = wide(lengths[2]);
+    let mut low = [0u8; 256];
+    read(front_room(&mut low, lows));
+    let mut high = [0u8; 256];
+    read(front_room(&mut high, highs));
+    let mut weight = [0u32; 256];
+    read_weights(&mut weight, weights);
+    Rows {
+        nodes: number_of(&count) as usize,
+        lows: lows,
+        highs: highs,
+        weights: weights,
+        low: low,
+        high: high,
+        weight: weight,
+    }
+}
+
+// The first n bytes, or all where there are fewer.
+pub fn front(bytes: &[u8], n: usize) -> &[u8] {
+    if bytes.len() < n {
+        return bytes;
+    }
+    &bytes[..n]
+}
+
+// The same, to be written.
+pub fn front_room(bytes: &mut [u8], n: usize) -> &mut [u8] {
+    if bytes.len() < n {
+        return bytes;
+    }
+    &mut bytes[..n]
+}
+
+// The first n weights, or all where there are fewer.
+pub fn front_weights(weights: &[u32], n: usize) -> &[u32] {
+    if weights.len() < n {
+        return weights;
+    }
+    &weights[..n]
+}
