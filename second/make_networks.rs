@@ -911,7 +911,7 @@ fn push_figures(chance: &mut Chance, made: &mut Made, net: &Net, drawn: &Tables)
 
 /// Networks up to this many pairs of interface and destination get a K record
 /// for each of them.
-const ALL_KEYS: usize = 110;
+const ALL_KEYS: usize = 400;
 
 fn push_good(chance: &mut Chance, made: &mut Made, net: &Net) {
     push_tables(made, "exact tables", net, exact_lengths(net));

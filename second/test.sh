@@ -33,7 +33,7 @@ fi
 if [ "$failed" -eq 0 ]; then
     "$out/second" selftest || failed=$((failed + 1))
     "$out/make_batch" 1 2500 > "$out/codec.batch" && compare codec codec codec
-    "$out/make_networks" 1 400 > "$out/answers.batch" && compare answers answers tables
+    "$out/make_networks" 1 500 > "$out/answers.batch" && compare answers answers tables
     for plan in plans/*.plan; do
         if target/bin/nightplan < "$plan" > "$out/report.proved" && "$out/second" report < "$plan" > "$out/report.second" &&
             cmp "$out/report.proved" "$out/report.second"; then

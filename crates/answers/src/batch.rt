@@ -3,6 +3,7 @@ use net::Failure;
 use net::Interface;
 use net::Link;
 use net::Node;
+use text::front;
 use text::front_room;
 use text::number_of;
 use text::read;
@@ -35,6 +36,11 @@ pub fn read_table() -> Table {
         length: length,
         bytes: bytes,
     }
+}
+
+// The table's bytes alone.
+pub fn lent(bytes: &[u8; 5000], length: usize) -> &[u8] {
+    front(bytes, length)
 }
 
 pub fn read_failure() -> Failure {

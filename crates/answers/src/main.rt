@@ -19,6 +19,7 @@ mod batch;
 mod hash;
 mod walks;
 
+use batch::lent;
 use batch::read_asked;
 use batch::read_byte;
 use batch::read_failure;
@@ -30,6 +31,7 @@ use net::Failure;
 use net::Interface;
 use net::Node;
 use net::Verdict;
+use net::limit;
 use report::Figures;
 use text::Rows;
 use text::decimal;
@@ -37,6 +39,7 @@ use text::front;
 use text::front_room;
 use text::front_weights;
 use text::hex;
+use text::number_and_place;
 use text::read;
 use text::read_network;
 use text::text;
@@ -44,14 +47,6 @@ use walk::Asked;
 use walk::Stepped;
 use walk::Walked;
 use walks::all_walks;
-
-fn print_verdict(name: &[u8], number: u8, place: usize) {
-    text(name);
-    text(b" ");
-    decimal(number as usize);
-    text(b" at ");
-    decimal(place);
-}
 
 // Larger networks' tables are told by their hash alone.
 fn in_full(number: u8, n: usize) -> bool {
@@ -86,7 +81,8 @@ fn print_tables(routing: &[u8], forwarding: &[u8], backwarding: &[u8]) {
 }
 
 fn print_built(n: usize, verdict: Verdict, routing: &[u8], forwarding: &[u8], backwarding: &[u8]) {
-    print_verdict(b"tables", verdict.number, verdict.place);
+    text(b"tables ");
+    number_and_place(verdict.number, verdict.place);
     text(b" ");
     let one = hash_bytes(hash::START, routing);
     let two = hash_bytes(one, forwarding);
@@ -134,7 +130,8 @@ fn keys_line() {
         Interface(interface),
         Node(destination),
     );
-    print_verdict(b"keys", answer.number, answer.place);
+    text(b"keys ");
+    number_and_place(answer.number, answer.place);
     text(b" ");
     decimal(answer.links as usize);
 }
@@ -154,7 +151,8 @@ fn best_line() {
         Node(source),
         Node(destination),
     );
-    print_verdict(b"best", answer.number, answer.place);
+    text(b"best ");
+    number_and_place(answer.number, answer.place);
     text(b" sum ");
     decimal(answer.sum as usize);
     text(b" links ");
@@ -164,21 +162,22 @@ fn best_line() {
 }
 
 fn row_line() {
-    let lent = read_table();
-    let table = lent.bytes;
+    let table = read_table();
+    let bytes = table.bytes;
     let n = read_number(8);
     let interface = read_number(8);
-    let number = tables::row_check(front(&table, lent.length), n, Interface(interface));
+    let number = tables::row_check(lent(&bytes, table.length), n, Interface(interface));
     text(b"row ");
     decimal(number as usize);
     text(b" ");
-    hex(tables::row_of(front(&table, lent.length), n, Interface(interface)));
+    hex(tables::row_of(lent(&bytes, table.length), n, Interface(interface)));
 }
 
 fn print_step(answer: Stepped) {
     match answer {
         Stepped::Refused(number, place) => {
-            print_verdict(b"step", number, place);
+            text(b"step ");
+            number_and_place(number, place);
             text(b" -");
         }
         Stepped::Delivered => text(b"step 0 at 0 delivered"),
@@ -224,17 +223,17 @@ fn step_line() {
     let routing = read_table();
     let forwarding = read_table();
     let backwarding = read_table();
-    let asked = read_asked();
-    let destination = read_number(8);
-    let failure = read_failure();
     let routing_bytes = routing.bytes;
     let forwarding_bytes = forwarding.bytes;
     let backwarding_bytes = backwarding.bytes;
+    let asked = read_asked();
+    let destination = read_number(8);
+    let failure = read_failure();
     print_step(step_of(
         rows,
-        front(&routing_bytes, routing.length),
-        front(&forwarding_bytes, forwarding.length),
-        front(&backwarding_bytes, backwarding.length),
+        lent(&routing_bytes, routing.length),
+        lent(&forwarding_bytes, forwarding.length),
+        lent(&backwarding_bytes, backwarding.length),
         asked,
         destination,
         failure,
@@ -272,7 +271,8 @@ fn walk_of(
 }
 
 fn print_walk(answer: Walked, trace: &[u8]) {
-    print_verdict(b"walk", answer.number, answer.place);
+    text(b"walk ");
+    number_and_place(answer.number, answer.place);
     text(b" ending ");
     decimal(answer.ending as usize);
     text(b" hops ");
@@ -286,20 +286,20 @@ fn walk_line() {
     let routing = read_table();
     let forwarding = read_table();
     let backwarding = read_table();
+    let routing_bytes = routing.bytes;
+    let forwarding_bytes = forwarding.bytes;
+    let backwarding_bytes = backwarding.bytes;
     let source = read_number(8);
     let destination = read_number(8);
     let failure = read_failure();
     let limit = read_byte();
     let length = read_number(2);
     let mut trace = [238u8; 600];
-    let routing_bytes = routing.bytes;
-    let forwarding_bytes = forwarding.bytes;
-    let backwarding_bytes = backwarding.bytes;
     let answer = walk_of(
         rows,
-        front(&routing_bytes, routing.length),
-        front(&forwarding_bytes, forwarding.length),
-        front(&backwarding_bytes, backwarding.length),
+        lent(&routing_bytes, routing.length),
+        lent(&forwarding_bytes, forwarding.length),
+        lent(&backwarding_bytes, backwarding.length),
         source,
         destination,
         failure,
@@ -326,11 +326,12 @@ fn all_walks_of(rows: Rows, routing: &[u8], forwarding: &[u8], backwarding: &[u8
 
 fn all_line() {
     let rows = read_network();
-    let mut routing = [0u8; 1024];
-    let mut forwarding = [0u8; 4096];
-    let mut backwarding = [0u8; 4096];
+    let mut routing = [0u8; limit::PAIRS];
+    let mut forwarding = [0u8; 2 * limit::LINKS * limit::NODES];
+    let mut backwarding = [0u8; 2 * limit::LINKS * limit::NODES];
     let verdict = build(rows, &mut routing, &mut forwarding, &mut backwarding);
-    print_verdict(b"all", verdict.number, verdict.place);
+    text(b"all ");
+    number_and_place(verdict.number, verdict.place);
     text(b" ");
     if verdict.number != 0 {
         text(b"-");
@@ -363,7 +364,8 @@ fn figures_of(
 
 fn print_figures(answer: Figures) {
     let line = answer.line;
-    print_verdict(b"figures", answer.number, answer.place);
+    text(b"figures ");
+    number_and_place(answer.number, answer.place);
     text(b" ");
     decimal(line.delivered);
     text(b" ");
@@ -379,15 +381,15 @@ fn figures_line() {
     let routing = read_table();
     let forwarding = read_table();
     let backwarding = read_table();
-    let failure = read_failure();
     let routing_bytes = routing.bytes;
     let forwarding_bytes = forwarding.bytes;
     let backwarding_bytes = backwarding.bytes;
+    let failure = read_failure();
     print_figures(figures_of(
         rows,
-        front(&routing_bytes, routing.length),
-        front(&forwarding_bytes, forwarding.length),
-        front(&backwarding_bytes, backwarding.length),
+        lent(&routing_bytes, routing.length),
+        lent(&forwarding_bytes, forwarding.length),
+        lent(&backwarding_bytes, backwarding.length),
         failure,
     ));
 }

@@ -3,8 +3,7 @@
 //   P  a stored plan: length (2 bytes, low byte first), then that many bytes, at most 1,024.
 //      Answer: `refused NUMBER at PLACE`, or `nodes N links M`, for each link ` LOW-HIGH:WEIGHT`, then ` plan HEX`, the bytes that the
 //      writer makes of the network, and ` short NUMBER`, its refusal of a room one byte too short.
-//   N  a network in memory: node count (8 bytes, low byte first), three row lengths (a byte each, at most 80), the low ends and the high
-//      ends (a byte each), the weights (4 bytes each, low byte first), the room's length (2 bytes, at most 400).
+//   N  a network in memory, as `text::read_network` reads it, then the room's length (2 bytes, at most 400).
 //      Answer: `network NUMBER at PLACE write NUMBER at PLACE count COUNT room HEX`; the room starts out as bytes EE.
 // Anything else ends the run.
 use net::end_at;
@@ -13,16 +12,11 @@ use text::front;
 use text::front_room;
 use text::front_weights;
 use text::hex;
+use text::number_and_place;
 use text::number_of;
 use text::read;
 use text::read_network;
 use text::text;
-
-fn print_verdict(number: u8, place: usize) {
-    decimal(number as usize);
-    text(b" at ");
-    decimal(place);
-}
 
 fn print_weight(weight: u32) {
     decimal(weight as usize);
@@ -69,7 +63,7 @@ fn print_plan(s: &[u8]) {
     let reading = plan::read_plan(s);
     if reading.number != 0 {
         text(b"refused ");
-        print_verdict(reading.number, reading.place);
+        number_and_place(reading.number, reading.place);
         return;
     }
     let network = reading.network;
@@ -106,10 +100,10 @@ fn plan_record() -> bool {
 fn print_checks(n: usize, low: &[u8], high: &[u8], weight: &[u32], room: &mut [u8]) {
     let verdict = net::check_network(n, low, high, weight);
     text(b"network ");
-    print_verdict(verdict.number, verdict.place);
+    number_and_place(verdict.number, verdict.place);
     let written = plan::write_plan(n, low, high, weight, room);
     text(b" write ");
-    print_verdict(written.number, written.place);
+    number_and_place(written.number, written.place);
     text(b" count ");
     decimal(written.count);
     text(b" room ");

@@ -2,18 +2,18 @@
 // is more than the 323 from which the reader gives the same answer as from all of it.
 use libc::STDIN_FILENO;
 use net::end_at;
+use net::limit;
 use report::Line;
 use report::Lines;
 use text::decimal;
 use text::front;
 use text::front_weights;
+use text::number_and_place;
 use text::text;
 
 fn print_refusal(number: u8, place: usize) {
     text(b"refused ");
-    decimal(number as usize);
-    text(b" at ");
-    decimal(place);
+    number_and_place(number, place);
     text(b"\n");
 }
 
@@ -30,11 +30,11 @@ fn print_line(line: Line) {
 }
 
 // The line of each link's failure: that of link k stands at k + 1.
-fn print_links(low: &[u8], high: &[u8], lines: [Line; 65]) {
+fn print_links(low: &[u8], high: &[u8], lines: [Line; limit::LINKS + 1]) {
     let mut k: usize = 0;
     while k < low.len() {
         let next = k + 1;
-        if 65 <= next {
+        if limit::LINKS < next {
             return;
         }
         decimal(end_at(low, k));
@@ -64,9 +64,9 @@ fn print_lines(n: usize, low: &[u8], high: &[u8], answer: Lines) {
 }
 
 fn print_report(n: usize, low: &[u8], high: &[u8], weight: &[u32]) {
-    let mut routing = [0u8; 1024];
-    let mut forwarding = [0u8; 4096];
-    let mut backwarding = [0u8; 4096];
+    let mut routing = [0u8; limit::PAIRS];
+    let mut forwarding = [0u8; 2 * limit::LINKS * limit::NODES];
+    let mut backwarding = [0u8; 2 * limit::LINKS * limit::NODES];
     tables::build_tables(
         n,
         low,

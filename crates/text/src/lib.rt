@@ -12,6 +12,13 @@ pub fn decimal(n: usize) {
     io::print_decimal(STDOUT_FILENO, n as u64);
 }
 
+// Writes a refusal number and its place, as `3 at 0`.
+pub fn number_and_place(number: u8, place: usize) {
+    decimal(number as usize);
+    text(b" at ");
+    decimal(place);
+}
+
 // Writes each byte as two hexadecimal digits in lower case.
 pub fn hex(bytes: &[u8]) {
     let mut i = 0;
@@ -32,7 +39,7 @@ pub fn number_of(bytes: &[u8]) -> u64 {
     value
 }
 
-// The number moved up by one byte, with this byte below it.
+// The number moved up by one byte, with this byte below it; what goes past 2^64 falls away.
 fn shifted(value: u64, byte: u8) -> u64 {
     value % 72057594037927936 * 256 + byte as u64
 }

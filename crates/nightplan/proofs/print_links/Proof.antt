@@ -1,4 +1,4 @@
--- `print_links` is safe and ends: links are counted up to the last, and a line is read only where there is one.
+-- `nightplan::print_links` is safe and ends: the index stays within the low ends, and what is left of them falls; the test keeps the place of each line within the lines.
 use borrow.Author.Needs.{needs}
 use Prim.Native.Nat.{_≤_, _-_}
 use lib.ListN.{length}

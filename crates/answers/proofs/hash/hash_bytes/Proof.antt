@@ -1,4 +1,4 @@
--- `hash_bytes` is safe and ends: the index stays within the bytes, and what is left of them falls.
+-- `answers::hash::hash_bytes` is safe and ends: the index stays within the bytes, and what is left of them falls.
 use borrow.Author.Needs.{needs}
 use Prim.Native.Nat.{_≤_, _-_}
 use lib.ListN.{length}

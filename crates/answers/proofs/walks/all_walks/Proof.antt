@@ -1,4 +1,4 @@
--- `all_walks` is safe and ends: links are counted up to the last.
+-- `answers::walks::all_walks` is safe and ends: each link fails once.
 use borrow.Author.Needs.{needs}
 use Prim.Native.Nat.{_≤_, _-_}
 use lib.ListN.{length}

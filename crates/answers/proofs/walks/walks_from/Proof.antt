@@ -1,4 +1,4 @@
--- `walks_from` is safe and ends: destinations are counted up to n.
+-- `answers::walks::walks_from` is safe and ends: each destination is walked to once.
 use borrow.Author.Needs.{needs}
 use Prim.Native.Nat.{_≤_, _-_}
 use Rattle.answers.proofs.walks.walks_from.Statement.{statement}
@@ -31,12 +31,4 @@ returns c = search needs
 pub walks-from-spec : {M : Type 1} → statement M
 walks-from-spec =
     tie.close
-    (tie.spec
-    Inv-loop
-    μ-loop
-    loop-holds
-    one-walk-requires
-    add-d
-    loop-less
-    loop-again
-    returns)
+    (tie.spec Inv-loop μ-loop loop-holds one-walk-requires add-d loop-less loop-again returns)

@@ -1,4 +1,4 @@
--- `walks_past` is safe and ends: sources are counted up to n.
+-- `answers::walks::walks_past` is safe and ends: each source is walked from once.
 use borrow.Author.Needs.{needs}
 use Prim.Native.Nat.{_≤_, _-_}
 use Rattle.answers.proofs.walks.walks_past.Statement.{statement}
@@ -31,12 +31,4 @@ returns c = search needs
 pub walks-past-spec : {M : Type 1} → statement M
 walks-past-spec =
     tie.close
-    (tie.spec
-    Inv-loop
-    μ-loop
-    loop-holds
-    walks-from-requires
-    add-s
-    loop-less
-    loop-again
-    returns)
+    (tie.spec Inv-loop μ-loop loop-holds walks-from-requires add-s loop-less loop-again returns)
