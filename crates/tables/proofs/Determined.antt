@@ -1,4 +1,4 @@
--- The contracts of `key_links` and of the builder determine their answers and what the builder leaves in the lent tables: two answers
+-- The contracts of `key_links`, of the row look-up and of the builder determine their answers and what the builder leaves in the lent tables: two answers
 -- that a contract allows for the same inputs are equal. After a refusal the contract says every part; else a set is told by its
 -- members, and a table by its bytes in the rows, each the byte of one entry, and by the bytes beyond them.
 use Prim.Native.Nat.{ℕ}
@@ -15,6 +15,7 @@ use Rattle.net.proofs.Verdicts.{first-accepted}
 use Rattle.net.proofs.Bytes.{byte-one}
 use Rattle.tables.specs.Key.{KeyLinksAnswer}
 use Rattle.tables.specs.Build.{buildVerdict, BuildAnswer}
+use Rattle.tables.specs.Row.{rowCheck, rowOf}
 use Rattle.tables.specs.declared.key.KeyLinks.{KeyLinks}
 use Rattle.tables.proofs.Filling.{filled-one}
 
@@ -76,3 +77,11 @@ module _ (n : ℕ) (low high weight : List ℕ) where
                 backwarding = s .2 ∙ sym (t .2);
               }
         ]
+
+-- the row look-up and its check say what they answer
+module _ (table : List ℕ) (n i : ℕ) where
+  pub row-check-one : {x y : ℕ} → x ≡ rowCheck table n i → y ≡ rowCheck table n i → x ≡ y
+  row-check-one p q = p ∙ sym q
+
+  pub row-of-one : {x y : List ℕ} → x ≡ rowOf table n i → y ≡ rowOf table n i → x ≡ y
+  row-of-one p q = p ∙ sym q
