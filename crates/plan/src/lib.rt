@@ -1,4 +1,5 @@
 // The stored plan: numbers in seven-bit groups, the reader and the writer.
+mod cursor;
 mod number;
 mod reader;
 mod writer;

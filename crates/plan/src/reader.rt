@@ -5,8 +5,8 @@ ghost use Prim.Native.Nat.{_≤_};
 ghost use lib.ListN.{replicate};
 ghost use Rattle.net.specs.Limits.{mostNodes, mostLinks};
 ghost use Rattle.plan.specs.Reader.{refusal, weightAt, differenceAt, linkAt, linksRead, linkCountAt, readPlan};
+use crate::cursor::number_at;
 use crate::number::Number;
-use crate::number::read_number;
 use net::Network;
 use net::comes_after;
 use net::limit;
@@ -49,7 +49,7 @@ fn refused(number: u8, place: usize) -> Reading
 fn read_weight(s: &[u8], third: usize, low: u8, high: u8) -> LinkRead
     ensures { λ r. ⌜ r ≡ weightAt (now (s .entry)) third low high ⌝ }
 {
-    match read_number(s, third) {
+    match number_at(s, third) {
         Number::Refused(number, place) => LinkRead::Refused(number, place),
         Number::Value(weight, next) => {
             if weight == 0 {
@@ -76,7 +76,7 @@ fn read_difference(
     requires { ⌜ n ≤ mostNodes ⌝ }
     ensures { λ r. ⌜ r ≡ differenceAt (now (s .entry)) n first second low «low_before» «high_before» ⌝ }
 {
-    match read_number(s, second) {
+    match number_at(s, second) {
         Number::Refused(number, place) => LinkRead::Refused(number, place),
         Number::Value(difference, third) => {
             if difference == 0 {
@@ -102,7 +102,7 @@ fn read_link(s: &[u8], n: usize, first: usize, low_before: usize, high_before: u
     requires { ⌜ n ≤ mostNodes ⌝ }
     ensures { λ r. ⌜ r ≡ linkAt (now (s .entry)) n first «low_before» «high_before» ⌝ }
 {
-    match read_number(s, first) {
+    match number_at(s, first) {
         Number::Refused(number, place) => LinkRead::Refused(number, place),
         Number::Value(low, second) => {
             if n <= low {
@@ -162,7 +162,7 @@ fn read_link_count(s: &[u8], n: usize, second: usize) -> Reading
     requires { ⌜ n ≤ mostNodes ⌝ }
     ensures { λ r. ⌜ r ≡ linkCountAt (now (s .entry)) n second ⌝ }
 {
-    match read_number(s, second) {
+    match number_at(s, second) {
         Number::Refused(number, place) => refused(number, place),
         Number::Value(m, at) => {
             if limit::LINKS < m {
@@ -176,7 +176,7 @@ fn read_link_count(s: &[u8], n: usize, second: usize) -> Reading
 pub fn read_plan(s: &[u8]) -> Reading
     ensures { λ r. ⌜ r ≡ readPlan (now (s .entry)) ⌝ }
 {
-    match read_number(s, 0) {
+    match number_at(s, 0) {
         Number::Refused(number, place) => refused(number, place),
         Number::Value(n, second) => {
             if n == 0 {

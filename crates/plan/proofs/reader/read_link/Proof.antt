@@ -5,8 +5,8 @@ use Rattle.plan.proofs.Readings.{low-unread, low-above, low-read}
 use Rattle.plan.proofs.reader.read_link.Statement.{statement}
 use Rattle.plan.proofs.reader.read_link.Tie as tie
 
-read-number-requires : tie.Need-read-number-requires
-read-number-requires c κs = search needs
+number-at-requires : tie.Need-number-at-requires
+number-at-requires c κs = search needs
 
 enum-known-number : tie.Need-enum-known-number
 enum-known-number c = search needs
@@ -15,7 +15,7 @@ enum-known-low : tie.Need-enum-known-low
 enum-known-low c = search needs
 
 returns : tie.Need-returns
-returns c = sym (low-above _ _ _ _ _ (c .before .before .before .before .read-number .ensures) _ _ (c .before .before .low .given .1) (c .if1 .taken))
+returns c = sym (low-above _ _ _ _ _ (c .before .before .before .before .number-at .ensures) _ _ (c .before .before .low .given .1) (c .if1 .taken))
 
 cast-read-difference : tie.Need-cast-read-difference
 cast-read-difference c = search needs
@@ -24,16 +24,16 @@ read-difference-requires : tie.Need-read-difference-requires
 read-difference-requires c κs = search needs
 
 returns-2 : tie.Need-returns-2
-returns-2 c = sym (low-unread _ _ _ _ _ (c .before .before .before .read-number .ensures) _ _ (c .before .number .given .1))
+returns-2 c = sym (low-unread _ _ _ _ _ (c .before .before .before .number-at .ensures) _ _ (c .before .number .given .1))
 
 returns-3 : tie.Need-returns-3
-returns-3 c = c .read-difference .ensures ∙ sym (low-read _ _ _ _ _ (c .before .before .before .before .before .read-number .ensures) _ _ (c .before .before .before .low .given .1) (c .before .if1 .left))
+returns-3 c = c .read-difference .ensures ∙ sym (low-read _ _ _ _ _ (c .before .before .before .before .before .number-at .ensures) _ _ (c .before .before .before .low .given .1) (c .before .if1 .left))
 
 pub read-link-spec : {M : Type 1} → statement M
 read-link-spec =
     tie.close
     (tie.spec
-    read-number-requires
+    number-at-requires
     enum-known-number
     enum-known-low
     returns

@@ -5,8 +5,8 @@ use Rattle.plan.proofs.Readings.{link-count-unread, link-count-above, l
 use Rattle.plan.proofs.reader.read_link_count.Statement.{statement}
 use Rattle.plan.proofs.reader.read_link_count.Tie as tie
 
-read-number-requires : tie.Need-read-number-requires
-read-number-requires c κs = search needs
+number-at-requires : tie.Need-number-at-requires
+number-at-requires c κs = search needs
 
 enum-known-number : tie.Need-enum-known-number
 enum-known-number c = search needs
@@ -21,22 +21,22 @@ refused-requires-2 : tie.Need-refused-requires-2
 refused-requires-2 c κs = search needs
 
 returns : tie.Need-returns
-returns c = c .refused2 .ensures ∙ sym (link-count-above _ _ _ (c .before .before .before .before .before .read-number .ensures) _ _ (c .before .before .before .m .given .1) (c .before .if1 .taken))
+returns c = c .refused2 .ensures ∙ sym (link-count-above _ _ _ (c .before .before .before .before .before .number-at .ensures) _ _ (c .before .before .before .m .given .1) (c .before .if1 .taken))
 
 read-links-requires : tie.Need-read-links-requires
 read-links-requires c κs = search needs
 
 returns-2 : tie.Need-returns-2
-returns-2 c = c .refused .ensures ∙ sym (link-count-unread _ _ _ (c .before .before .before .before .read-number .ensures) _ _ (c .before .before .number .given .1))
+returns-2 c = c .refused .ensures ∙ sym (link-count-unread _ _ _ (c .before .before .before .before .number-at .ensures) _ _ (c .before .before .number .given .1))
 
 returns-3 : tie.Need-returns-3
-returns-3 c = c .read-links .ensures ∙ sym (link-count-read _ _ _ (c .before .before .before .before .before .read-number .ensures) _ _ (c .before .before .before .m .given .1) (c .before .if1 .left))
+returns-3 c = c .read-links .ensures ∙ sym (link-count-read _ _ _ (c .before .before .before .before .before .number-at .ensures) _ _ (c .before .before .before .m .given .1) (c .before .if1 .left))
 
 pub read-link-count-spec : {M : Type 1} → statement M
 read-link-count-spec =
     tie.close
     (tie.spec
-    read-number-requires
+    number-at-requires
     enum-known-number
     refused-requires
     enum-known-m
