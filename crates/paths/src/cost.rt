@@ -6,8 +6,8 @@ ghost use Rattle.net.specs.Limits.{mostLinks};
 ghost use Rattle.paths.specs.Cost.{unknown, noCost, isKnown, before, extended, lesserOf};
 
 pub struct Cost {
-    pub sum: u32,
     pub links: u64,
+    pub sum: u32,
     pub first: u8,
 }
 
