@@ -2,20 +2,22 @@
 -- for one destination, one link of a round, one round more. The code counts up to m where a definition counts down what is left, so
 -- that m - i is left at i.
 use Prim.Native.Nat.{ℕ, zero, suc, _+_, _*_, _-_, _≤_, _<_}
-use mathlib.Core.Path.{_≡_, refl, sym, ap}
-use mathlib.Core.Logic.{_≢_}
+use mathlib.Core.Path.{_≡_, refl, sym, ap, _∙_}
+use mathlib.Core.Bool.{Bool, true, false}
+use mathlib.Core.Logic.{_≢_, _⊎_, inl, inr}
 use mathlib.Core.List.{List, []}
 use native.Mathlib.Nat.{sub-zero}
 use native.Mathlib.Omega.{arith}
 use borrow.Author.Tests.{eq-eqb, ne-eqb}
 use lib.Dec.{eqb}
-use lib.ListN.{length, getD, replicate}
+use lib.ListN.{length, getD, set, replicate}
+use lib.Seq.{set-getD}
 use Rattle.net.specs.Limits.{mostNodes}
 use Rattle.net.specs.Check.{pick}
-use Rattle.paths.specs.Cost.{noCost, extended, lesserOf}
+use Rattle.paths.specs.Cost.{noCost, before, extended, lesserOf}
 use Rattle.paths.specs.Square.{cell, put, offer, offersOf, roundFrom, roundOf, roundsOf, startFrom, startSquare}
 use Rattle.paths.specs.declared.cost.Cost.{Cost}
-use Rattle.paths.proofs.Cells.{Shaped, hereCost, put-here, put-elsewhere, bothOffers}
+use Rattle.paths.proofs.Cells.{Shaped, hereCost, put-shaped, put-here, put-elsewhere, bothOffers}
 use Rattle.paths.proofs.Shape.{read-cell}
 
 all-done : (m i : ℕ) → m ≤ i → m - i ≡ 0
@@ -53,21 +55,41 @@ module _ (m k x y weight d : ℕ) (square : List (List Cost)) where
   unfolding offersOf
   offers-on h next e = rw (one-less m d h, ← one-more d, ← e)
 
--- Both offers of a link for one destination, as the code makes them: it reads both entries before it stores one, and they lie in
--- different rows. `past` is what a read past an array's end would give.
+-- storing an offer only where it comes before the entry is storing the better of the two
+stored-if : (square : List (List Cost)) (i d : ℕ) (offered : Cost) {old : Cost} {better : Bool} {next : List (List Cost)}
+    → old ≡ cell square i d → better ≡ before offered old
+    → ((better ≡ true) × (next ≡ put square i d offered)) ⊎ ((better ≡ false) × (next ≡ square))
+    → next ≡ put square i d (lesserOf old offered)
+unfolding lesserOf put cell
+stored-if square i d offered is compared (inl (wins, stored)) = rw (sym compared ∙ wins) stored
+stored-if square i d offered is compared (inr (loses, stayed)) =
+    let same : set square i (set (getD square i []) d (getD (getD square i []) d noCost)) ≡ square =
+    rw (set-getD (getD square i []) d noCost, set-getD square i []) in
+    rw (sym compared ∙ loses, is, same) stayed
+
+-- Both offers of a link for one destination, as the code makes them: it reads both entries before it stores one, they lie in different
+-- rows, and it stores what comes before an entry. `past` is what a read past an array's end would give.
 pub both-offers : (k x y weight d : ℕ) (square : List (List Cost)) → Shaped square → x < mostNodes → y < mostNodes → d < mostNodes → x ≢ y
-    → (past : Cost) {up nearer down other : Cost}
-    → up ≡ extended (getD (getD square y []) d past) weight k (2 * k) → nearer ≡ lesserOf (getD (getD square x []) d past) up
-    → down ≡ extended nearer weight k (2 * k + 1) → other ≡ lesserOf (getD (getD square y []) d past) down
-    → bothOffers k x y weight d square ≡ put (put square x d nearer) y d other
+    → (past : Cost) {up nearer down : Cost} {low-better high-better : Bool} {stored next : List (List Cost)}
+    → up ≡ extended (getD (getD square y []) d past) weight k (2 * k) → low-better ≡ before up (getD (getD square x []) d past)
+    → ((low-better ≡ true) × (stored ≡ put square x d up)) ⊎ ((low-better ≡ false) × (stored ≡ square))
+    → nearer ≡ lesserOf (getD (getD square x []) d past) up
+    → down ≡ extended nearer weight k (2 * k + 1) → high-better ≡ before down (getD (getD square y []) d past)
+    → ((high-better ≡ true) × (next ≡ put stored y d down)) ⊎ ((high-better ≡ false) × (next ≡ stored))
+    → (bothOffers k x y weight d square ≡ next) × Shaped next
 unfolding offer
-both-offers k x y weight d square shaped row-x row-y column differ past {nearer} up-is nearer-is down-is other-is =
+both-offers k x y weight d square shaped row-x row-y column differ past {up} {nearer} {down} {stored} {next} up-is low-compared low-stored nearer-is down-is high-compared high-stored =
     let here : getD (getD square x []) d past ≡ cell square x d = read-cell square shaped x d row-x column past in
     let there : getD (getD square y []) d past ≡ cell square y d = read-cell square shaped y d row-y column past in
-    let first : put square x d (lesserOf (cell square x d) (extended (cell square y d) weight k (2 * k))) ≡ put square x d nearer = cc in
+    let first : stored ≡ put square x d nearer =
+    stored-if square x d up here low-compared low-stored ∙ ap (put square x d) (sym nearer-is) in
     let kept : cell (put square x d nearer) y d ≡ cell square y d = put-elsewhere square shaped x row-x d nearer y d (λ e. differ (sym e)) in
-    let stored : cell (put square x d nearer) x d ≡ nearer = put-here square shaped x row-x d nearer column in
-    rw (first, kept, stored) (cc)
+    let found : cell (put square x d nearer) x d ≡ nearer = put-here square shaped x row-x d nearer column in
+    let other : Cost = lesserOf (getD (getD square y []) d past) down in
+    let second : next ≡ put stored y d other =
+    stored-if stored y d down (there ∙ sym kept ∙ ap (λ (s : List (List Cost)). cell s y d) (sym first)) high-compared high-stored in
+    let offered : put square x d (lesserOf (cell square x d) (extended (cell square y d) weight k (2 * k))) ≡ put square x d nearer = cc in
+    (rw (offered, kept, found) (cc), rw (second, first) (put-shaped _ (put-shaped square shaped x row-x d nearer) y row-y d other))
 
 -- the links from k on, of m in all
 module _ (m n : ℕ) (low high weight : List ℕ) (out k : ℕ) (square : List (List Cost)) where

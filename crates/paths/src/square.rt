@@ -7,6 +7,7 @@ ghost use Rattle.net.specs.Check.{Accepted};
 ghost use Rattle.net.specs.Rows.{networkOf};
 ghost use Rattle.paths.specs.Square.{startSquare, roundOf, BestSquare};
 use crate::cost::Cost;
+use crate::cost::comes_before;
 use crate::cost::extend;
 use crate::cost::lesser;
 use crate::cost::no_cost;
@@ -57,9 +58,14 @@ fn round(
             while d < n {
                 let a = next[x][d];
                 let b = next[y][d];
-                let nearer = lesser(a, extend(b, w, k, up));
-                next[x][d] = nearer;
-                next[y][d] = lesser(b, extend(nearer, w, k, down));
+                let to_low = extend(b, w, k, up);
+                if comes_before(to_low, a) {
+                    next[x][d] = to_low;
+                }
+                let to_high = extend(lesser(a, to_low), w, k, down);
+                if comes_before(to_high, b) {
+                    next[y][d] = to_high;
+                }
                 d += 1;
             }
         }

@@ -3,13 +3,13 @@
 -- differ, so that one store leaves the other's entry as it was read.
 use Prim.Native.Nat.{_-_, _≤_}
 use mathlib.Core.Path.{_≡_, refl, sym, _∙_}
-use mathlib.Core.Logic.{⊎-elim}
+use mathlib.Core.Logic.{inl, inr, ⊎-elim}
 use native.Mathlib.Nat.{sub-zero}
 use native.Mathlib.Omega.{arith}
 use lib.ListN.{length, getD}
 use Rattle.net.specs.Check.{Joins}
 use Rattle.paths.specs.Square.{put, offersOf, roundFrom, roundOf}
-use Rattle.paths.proofs.Cells.{Shaped, put-shaped}
+use Rattle.paths.proofs.Cells.{Shaped}
 use Rattle.paths.proofs.Shape.{array-shaped}
 use Rattle.paths.proofs.Unfold.{offers-done, offers-on, both-offers, round-begin, round-done, round-out, round-on}
 use Rattle.paths.proofs.square.round.Statement.{statement}
@@ -110,38 +110,41 @@ index-2-b c = omega arith
 extend-requires : tie.Need-extend-requires Inv-loop2 μ-loop2 Inv-loop μ-loop
 extend-requires c κs = omega arith
 
+comes-before-requires : tie.Need-comes-before-requires Inv-loop2 μ-loop2 Inv-loop μ-loop
+comes-before-requires c κs = tt
+
+mul-to-low : tie.Need-mul-to-low Inv-loop2 μ-loop2 Inv-loop μ-loop
+mul-to-low c = let link = joins (c .before .before .before .before .before .before .before .before .before .before .before) in omega arith
+
+mul-to-low-2 : tie.Need-mul-to-low-2 Inv-loop2 μ-loop2 Inv-loop μ-loop
+mul-to-low-2 c = omega arith
+
+index-1-to-low : tie.Need-index-1-to-low Inv-loop2 μ-loop2 Inv-loop μ-loop
+index-1-to-low c = let link = joins (c .before .before .before .before .before .before .before .before .before .before .before) in omega arith
+
+index-2-to-low : tie.Need-index-2-to-low Inv-loop2 μ-loop2 Inv-loop μ-loop
+index-2-to-low c = omega arith
+
 lesser-requires : tie.Need-lesser-requires Inv-loop2 μ-loop2 Inv-loop μ-loop
 lesser-requires c κs = tt
-
-mul-nearer : tie.Need-mul-nearer Inv-loop2 μ-loop2 Inv-loop μ-loop
-mul-nearer c = let link = joins (c .before .before .before .before .before .before .before .before .before .before) in omega arith
-
-mul-nearer-2 : tie.Need-mul-nearer-2 Inv-loop2 μ-loop2 Inv-loop μ-loop
-mul-nearer-2 c = omega arith
-
-index-1-nearer : tie.Need-index-1-nearer Inv-loop2 μ-loop2 Inv-loop μ-loop
-index-1-nearer c = let link = joins (c .before .before .before .before .before .before .before .before .before .before) in omega arith
-
-index-2-nearer : tie.Need-index-2-nearer Inv-loop2 μ-loop2 Inv-loop μ-loop
-index-2-nearer c = omega arith
 
 extend-requires-2 : tie.Need-extend-requires-2 Inv-loop2 μ-loop2 Inv-loop μ-loop
 extend-requires-2 c κs = omega arith
 
-lesser-requires-2 : tie.Need-lesser-requires-2 Inv-loop2 μ-loop2 Inv-loop μ-loop
-lesser-requires-2 c κs = tt
+comes-before-requires-2 : tie.Need-comes-before-requires-2 Inv-loop2 μ-loop2 Inv-loop μ-loop
+comes-before-requires-2 c κs = tt
 
-mul-t31 : tie.Need-mul-t31 Inv-loop2 μ-loop2 Inv-loop μ-loop
-mul-t31 c = let link = joins (c .before .before .before .before .before .before .before .before .before .before .before .before) in omega arith
+mul-to-high : tie.Need-mul-to-high Inv-loop2 μ-loop2 Inv-loop μ-loop
+mul-to-high c = let link = joins (c .before .before .before .before .before .before .before .before .before .before .before .before .before .before .before) in omega arith
 
-mul-t28 : tie.Need-mul-t28 Inv-loop2 μ-loop2 Inv-loop μ-loop
-mul-t28 c = omega arith
+mul-to-high-2 : tie.Need-mul-to-high-2 Inv-loop2 μ-loop2 Inv-loop μ-loop
+mul-to-high-2 c = omega arith
 
-index-1-next : tie.Need-index-1-next Inv-loop2 μ-loop2 Inv-loop μ-loop
-index-1-next c = let link = joins (c .before .before .before .before .before .before .before .before .before .before .before .before) in omega arith
+index-1-to-high : tie.Need-index-1-to-high Inv-loop2 μ-loop2 Inv-loop μ-loop
+index-1-to-high c = let link = joins (c .before .before .before .before .before .before .before .before .before .before .before .before .before .before .before) in omega arith
 
-index-2-next : tie.Need-index-2-next Inv-loop2 μ-loop2 Inv-loop μ-loop
-index-2-next c = omega arith
+index-2-to-high : tie.Need-index-2-to-high Inv-loop2 μ-loop2 Inv-loop μ-loop
+index-2-to-high c = omega arith
 
 add-d : tie.Need-add-d Inv-loop2 μ-loop2 Inv-loop μ-loop
 add-d c = omega arith
@@ -152,14 +155,16 @@ loop2-less c = omega arith
 loop2-again : tie.Need-loop2-again Inv-loop2 μ-loop2 Inv-loop μ-loop
 unfolding put
 loop2-again c =
-    let at = c .before .before .before .before .before .before .before .loop2 in
-    let link = joins (c .before .before .before .before .before .before .before .before .before .before .before .before) in (
+    let at = c .before .before .before .before .before .before .before .before .before .before .loop2 in
+    let link = joins (c .before .before .before .before .before .before .before .before .before .before .before .before .before .before .before) in
+    let offered = both-offers _ _ _ _ (at .d) (at .next) (at .inv .1) (omega arith) (omega arith) (omega arith) (λ e. omega arith) _
+    (c .before .before .before .before .before .before .extend .ensures) (c .before .before .before .before .before .comes-before .ensures)
+    (⊎-elim (λ w. inl (w .0 .taken, w .1)) (λ w. inr (w .0 .left, w .1)) (c .before .before .before .before .if2 .came))
+    (c .before .before .before .lesser .ensures) (c .before .before .extend2 .ensures) (c .before .comes-before2 .ensures)
+    (⊎-elim (λ w. inl (w .0 .taken, w .1)) (λ w. inr (w .0 .left, w .1)) (c .if3 .came)) in (
       omega arith,
-      put-shaped _ (put-shaped _ (at .inv .1) _ (omega arith) _ _) _ (omega arith) _ _,
-      at .inv .2
-          ∙ offers-on _ _ _ _ _ (at .d) (at .next) (c .before .before .before .before .before .before .loop2-test .taken) _
-          (both-offers _ _ _ _ (at .d) (at .next) (at .inv .1) (omega arith) (omega arith) (omega arith) (λ e. omega arith) _
-          (c .before .before .before .extend .ensures) (c .before .before .lesser .ensures) (c .before .extend2 .ensures) (c .lesser2 .ensures)),
+      offered .1,
+      at .inv .2 ∙ offers-on _ _ _ _ _ (at .d) (at .next) (c .before .before .before .before .before .before .before .before .before .loop2-test .taken) _ (offered .0),
     )
 
 add-k : tie.Need-add-k Inv-loop2 μ-loop2 Inv-loop μ-loop
@@ -222,17 +227,18 @@ round-spec =
     index-1-b
     index-2-b
     extend-requires
+    comes-before-requires
+    mul-to-low
+    mul-to-low-2
+    index-1-to-low
+    index-2-to-low
     lesser-requires
-    mul-nearer
-    mul-nearer-2
-    index-1-nearer
-    index-2-nearer
     extend-requires-2
-    lesser-requires-2
-    mul-t31
-    mul-t28
-    index-1-next
-    index-2-next
+    comes-before-requires-2
+    mul-to-high
+    mul-to-high-2
+    index-1-to-high
+    index-2-to-high
     add-d
     loop2-less
     loop2-again
