@@ -1,9 +1,10 @@
-# Two commands do all there is to do: `make report < FILE` and `make test`. They need the Rattle kit (rt), rustc and make.
-.PHONY: report test clean
+# Two commands do all there is to do: `make report < FILE` and `make test`. They need the Rattle kit (rt), rustc and make. `make bench`
+# measures; it needs valgrind too.
+.PHONY: report test bench clean
 
 # The report on a stored plan. What is built says nothing on standard output, so that the report is all there is.
 report: target/bin/nightplan
-	@target/bin/nightplan
+	@sh run.sh nightplan
 
 target/bin/%: crates.txt $(shell find crates -name '*.rt' -o -name '*.antt')
 	@rt check $* < /dev/null >&2
@@ -11,6 +12,14 @@ target/bin/%: crates.txt $(shell find crates -name '*.rt' -o -name '*.antt')
 # The proofs, the must-fail edits and the stored program runs, from nothing; then the comparison with the second program.
 test:
 	@sh second/test.sh
+
+# Instructions and time of nightplan against the second program (bench/README.md).
+bench: target/bin/nightplan
+	@mkdir -p build/bench
+	@sh bench/native.sh build/bench
+	@rustc -O --edition 2021 -D warnings second/second.rs -o build/bench/second
+	@rustc -O --edition 2021 -D warnings bench/bench.rs -o build/bench/bench
+	@build/bench/bench build/bench/nightplan 'build/bench/second report' build/bench $(patsubst %,plans/%.plan,full ring abilene a bare)
 
 clean:
 	rm -rf target build

@@ -1,8 +1,8 @@
 //! Compares the answers of two programs to one batch, record by record.
 //!
-//! It knows the batch formats (see make_batch.rs and make_networks.rs) only
-//! well enough to tell where each record ends; what a right answer is it does
-//! not know. It shares no code with the other programs.
+//! It knows the batch formats (see codec_batch.rs and tables_batch.rs of the
+//! folder generate) only well enough to tell where each record ends; what a
+//! right answer is it does not know. It shares no code with the other programs.
 //!
 //! Build:  rustc -O --edition 2021 -D warnings compare.rs
 //! Use:    compare BATCH PROVED_ANSWERS SECOND_ANSWERS LABEL

@@ -90,39 +90,30 @@ fn toll(graph: &Graph, link: usize) -> u128 {
 }
 
 pub fn by_tree(graph: &Graph, out: u64, from: usize) -> Vec<Option<Chain>> {
+    let mut best: Vec<Option<Chain>> = vec![None; graph.nodes];
     // The least cost found so far, and the node before on that way.
     let mut reached: Vec<Option<(u128, usize)>> = vec![None; graph.nodes];
-    let mut settled = vec![false; graph.nodes];
     reached[from] = Some((0, from));
     loop {
-        let open = (0..graph.nodes).filter(|&node| !settled[node]);
-        let nearest = open.filter_map(|node| reached[node].map(|(cost, _)| (cost, node))).min();
-        let Some((cost, node)) = nearest else {
-            break;
+        let open = (0..graph.nodes).filter(|&node| best[node].is_none());
+        let nearest = open.filter_map(|node| reached[node].map(|way| (way, node))).min();
+        let Some(((cost, before), node)) = nearest else {
+            return best;
         };
-        settled[node] = true;
+        // The node before has its chain already; only the first has none.
+        let chain = best[before].as_deref().unwrap_or(&[]);
+        best[node] = Some([chain, &[node]].concat());
         for (to, way) in reached.iter_mut().enumerate() {
             let Some(link) = usable(graph, out, node, to) else {
                 continue;
             };
-            // A settled node is never changed: its cost is at most `cost`.
+            // A node with a chain never changes: its cost is at most `cost`.
             let longer = cost + toll(graph, link);
             if way.is_none_or(|(known, _)| longer < known) {
                 *way = Some((longer, node));
             }
         }
     }
-    let chain_to = |to: usize| {
-        let mut chain = vec![to];
-        let mut node = to;
-        while node != from {
-            node = reached[node]?.1;
-            chain.push(node);
-        }
-        chain.reverse();
-        Some(chain)
-    };
-    (0..graph.nodes).map(chain_to).collect()
 }
 
 // --------------------------------------------------------------- asking
@@ -140,10 +131,13 @@ impl<'a> Best<'a> {
         Best { graph, method, found: HashMap::new() }
     }
 
-    /// The best path without the links in `out`.
-    pub fn path(&mut self, out: u64, from: usize, to: usize) -> Option<&[usize]> {
+    /// The best paths from a node to each node, without the links in `out`.
+    pub fn paths(&mut self, out: u64, from: usize) -> &[Option<Chain>] {
         let (graph, method) = (self.graph, self.method);
-        let all = self.found.entry((out, from)).or_insert_with(|| method(graph, out, from));
-        all[to].as_deref()
+        self.found.entry((out, from)).or_insert_with(|| method(graph, out, from))
+    }
+
+    pub fn path(&mut self, out: u64, from: usize, to: usize) -> Option<&[usize]> {
+        self.paths(out, from)[to].as_deref()
     }
 }

@@ -10,8 +10,8 @@
 //!
 //! Build:  rustc -O --edition 2021 -D warnings second.rs
 //!         (the other files of the program are found beside this one)
-//! Use:    second codec < batch > answers      batch of make_batch.rs
-//!         second tables < batch > answers     batch of make_networks.rs
+//! Use:    second codec < batch > answers      batch of generate/codec_batch.rs
+//!         second tables < batch > answers     batch of generate/tables_batch.rs
 //!         second report < plan                a stored plan's report
 //!         second selftest                     reads nothing
 //!

@@ -103,7 +103,7 @@ impl Built {
     }
 
     fn keys(&self, j: usize, i: usize, d: usize) -> u64 {
-        tables::key_links(&mut Best::new(&self.graph, self.method), self.interface(j, i), d)
+        tables::key_links(&mut Best::new(&self.graph, self.method), self.interface(j, i))[d]
     }
 
     /// Ending and trace, asked through the entry that checks everything.
@@ -307,9 +307,10 @@ fn compare_ways(tally: &mut Tally, chance: &mut Chance, network: &Network) {
     let (mut trial, mut tree) = (Best::new(&graph, by_trial), Best::new(&graph, by_tree));
     for interface in 0..graph.interfaces() {
         let algorithm = keys_by_algorithm(&graph, interface);
+        let by_trial = tables::key_links(&mut trial, interface);
+        let by_tree = tables::key_links(&mut tree, interface);
         for d in 0..graph.nodes {
-            let one = tables::key_links(&mut trial, interface, d);
-            let other = tables::key_links(&mut tree, interface, d);
+            let (one, other) = (by_trial[d], by_tree[d]);
             let place = || format!("interface {interface} for {d}, {}", described(network));
             tally.check("key links equal both ways", one == other, place);
             tally.check("key links equal 000's algorithm", one == algorithm[d], place);

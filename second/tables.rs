@@ -47,25 +47,28 @@ pub fn entry(best: &mut Best, out: u64, at: usize, d: usize) -> u8 {
     }
 }
 
-/// The key links of an interface j to i for d (000, section II; 001, section
-/// 2.2), as a set by link number. A link leads both ways, so either of its
-/// ends is taken as u; and it is taken out whole, not in one direction only.
-pub fn key_links(best: &mut Best, interface: usize, d: usize) -> u64 {
+/// The key links of an interface j to i for each d (000, section II; 001,
+/// section 2.2), as sets by link number. A link leads both ways, so either of
+/// its ends is taken as u; and it is taken out whole, not in one direction
+/// only.
+pub fn key_links(best: &mut Best, interface: usize) -> Vec<u64> {
     let graph = best.graph;
     let (j, i) = graph.ends(interface);
     // First condition: with all links present, j is the entry of i for d.
-    if usize::from(entry(best, 0, i, d)) != j {
-        return 0;
-    }
-    let mut keys = 0;
+    let asked: Vec<usize> =
+        (0..graph.nodes).filter(|&d| usize::from(entry(best, 0, i, d)) == j).collect();
+    let mut keys = vec![0; graph.nodes];
     for (number, link) in graph.links.iter().enumerate() {
         let alone = 1 << number;
         for u in [link.low, link.high] {
             // Second condition: without the link, the best path from u to d
             // crosses from j to i.
-            let path = best.path(alone, u, d).unwrap_or(&[]);
-            if path.windows(2).any(|hop| hop == [j, i]) {
-                keys |= alone;
+            let paths = best.paths(alone, u);
+            for &d in &asked {
+                let path = paths[d].as_deref().unwrap_or(&[]);
+                if path.windows(2).any(|hop| hop == [j, i]) {
+                    keys[d] |= alone;
+                }
             }
         }
     }
@@ -82,8 +85,7 @@ pub fn build(best: &mut Best) -> Tables {
     for interface in 0..interfaces {
         // Whoever gets a packet decides where it is forwarded to.
         let (_, i) = graph.ends(interface);
-        for d in 0..nodes {
-            let keys = key_links(best, interface, d);
+        for (d, keys) in key_links(best, interface).into_iter().enumerate() {
             tables.forwarding.push(entry(best, keys, i, d));
         }
     }
@@ -122,7 +124,7 @@ pub fn keys(network: &Network, interface: u64, destination: u64) -> Result<u64, 
     let graph = network.graph()?;
     let interface = index(interface, graph.interfaces(), 13)?;
     let destination = index(destination, graph.nodes, 11)?;
-    Ok(key_links(&mut Best::new(&graph, by_tree), interface, destination))
+    Ok(key_links(&mut Best::new(&graph, by_tree), interface)[destination])
 }
 
 /// Fills the fronts of the lent tables: routing, forwarding, backwarding.

@@ -13,35 +13,55 @@ passed=${passed:-0}
 failed=${failed:-1}
 [ "$status" -eq 0 ] || [ "$failed" -gt 0 ] || failed=1
 
-# compares one batch: LABEL, the proved program, the second program's sub-command; the batch stands in $out/LABEL.batch
-compare() {
-    if "target/bin/$2" < "$out/$1.batch" > "$out/$1.proved" &&
-        "$out/second" "$3" < "$out/$1.batch" > "$out/$1.second" &&
-        "$out/compare" "$out/$1.batch" "$out/$1.proved" "$out/$1.second" "$1"; then
+# runs one check, given as a command, and counts it
+check() {
+    if "$@"; then
         passed=$((passed + 1))
     else
-        echo "$1: the two programs differ, or one of them failed"
+        echo "failed: $*"
         failed=$((failed + 1))
     fi
 }
 
+# compiles one program: its main file, its name
+compile() {
+    rustc -O --edition 2021 -D warnings "second/$1" -o "$out/$2"
+}
+
+# compares record by record: LABEL, the batch to generate and its COUNT, the proved program, the second program's sub-command
+compare() {
+    "$out/generate" "$2" 1 "$3" > "$out/$1.batch" &&
+        sh run.sh "$4" < "$out/$1.batch" > "$out/$1.proved" &&
+        "$out/second" "$5" < "$out/$1.batch" > "$out/$1.second" &&
+        "$out/compare" "$out/$1.batch" "$out/$1.proved" "$out/$1.second" "$1"
+}
+
+# compares whole reports, on a batch and on the example plans
+compare_reports() {
+    "$out/generate" reports 1 600 > "$out/reports.batch" &&
+        "$out/compare_reports" "sh run.sh nightplan" "$out/second report" "$out/reports.batch" plans/*.plan
+}
+
+# an example plan that is drawn stands there as it is drawn
+example() {
+    "$out/generate" example "$1" | cmp - "plans/$1.plan"
+}
+
 if [ "$failed" -eq 0 ]; then
-    for program in second make_batch make_networks compare; do
-        rustc -O --edition 2021 -D warnings "second/$program.rs" -o "$out/$program" || failed=$((failed + 1))
-    done
+    compile second.rs second && compile generate/main.rs generate && compile compare.rs compare &&
+        compile compare_reports.rs compare_reports || failed=1
 fi
+# the first 150 networks hold every deliberate one; under the emulator, some thirty times slower, they must do
+networks=500
+[ "$(uname -m)" = x86_64 ] || networks=150
+
 if [ "$failed" -eq 0 ]; then
-    "$out/second" selftest || failed=$((failed + 1))
-    "$out/make_batch" 1 2500 > "$out/codec.batch" && compare codec codec codec
-    "$out/make_networks" 1 500 > "$out/answers.batch" && compare answers answers tables
-    for plan in plans/*.plan; do
-        if target/bin/nightplan < "$plan" > "$out/report.proved" && "$out/second" report < "$plan" > "$out/report.second" &&
-            cmp "$out/report.proved" "$out/report.second"; then
-            passed=$((passed + 1))
-        else
-            echo "$plan: the two reports differ"
-            failed=$((failed + 1))
-        fi
+    check "$out/second" selftest
+    check compare codec codec 2500 codec codec
+    check compare answers tables "$networks" answers tables
+    check compare_reports
+    for name in full ring bare; do
+        check example "$name"
     done
 fi
 echo "$passed passed, $failed failed"

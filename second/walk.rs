@@ -131,7 +131,8 @@ pub fn follow(
     failed: Option<usize>,
     limit: u8,
 ) -> Walk {
-    let mut walk = Walk { ending: DELIVERED, nodes: vec![source as u8] };
+    let mut walk = Walk { ending: DELIVERED, nodes: Vec::with_capacity(usize::from(limit) + 1) };
+    walk.nodes.push(source as u8);
     let mut at = At::Start(source);
     let mut node = source;
     // The destination comes before the limit, and the limit before the step.

@@ -1,18 +1,10 @@
-//! Makes a batch of records for the comparison of the proved program with the
-//! second program (second.rs, sub-command `tables`): paths, key links, tables,
-//! steps and walks. It says nothing about the right answers: it only has to
-//! reach every refusal, every ending, equal paths, bridges, separate parts,
-//! the limits and what lies one past them. It shares no code with the other
-//! programs.
+//! Sub-command `tables`: a batch of records for paths, key links, tables, steps
+//! and walks. It reaches every refusal, every ending, equal paths, bridges,
+//! separate parts, the limits and what lies one past them.
 //!
-//! Build:  rustc -O --edition 2021 -D warnings make_networks.rs
-//! Use:    make_networks SEED COUNT > batch
-//!
-//! The same seed and count give the same batch. COUNT is the number of good
-//! networks; each brings records of every kind. A list of deliberate networks
-//! comes first, the rest is drawn at random. Networks with a fault come on
-//! top of them. Standard error tells how many records there are of every kind
-//! of case, and whether COUNT was too small for the list.
+//! COUNT is the number of good networks; each brings records of every kind. A
+//! list of deliberate networks comes first, the rest is drawn at random.
+//! Networks with a fault come on top of them.
 //!
 //! Batch format: records one after another until the end. Numbers of several
 //! bytes stand low byte first. Each record begins with a byte for its kind.
@@ -39,413 +31,13 @@
 //! The lent tables of a T are at most 5000 bytes long each, a trace at most
 //! 600. The reader of the batch fills them with bytes 0xEE first.
 
-use std::collections::{BTreeMap, BTreeSet};
-use std::io::{self, Write};
-use std::process::ExitCode;
+use crate::chance::Chance;
+use crate::networks::{net_at_random, net_list, Net, NetCase, Weights, LONGEST_ROW, MOST_LINKS};
+use crate::shapes::Shape;
+use std::collections::BTreeMap;
 
-const LONGEST_ROW: usize = 80;
 const LONGEST_TABLE: usize = 5000;
 const LONGEST_TRACE: usize = 600;
-const MOST_LINKS: usize = 64;
-
-// ---------------------------------------------------------------- chance
-
-/// Splitmix64: small, and good enough to scatter cases.
-struct Chance(u64);
-
-impl Chance {
-    fn next(&mut self) -> u64 {
-        self.0 = self.0.wrapping_add(0x9E37_79B9_7F4A_7C15);
-        let mut z = self.0;
-        z = (z ^ (z >> 30)).wrapping_mul(0xBF58_476D_1CE4_E5B9);
-        z = (z ^ (z >> 27)).wrapping_mul(0x94D0_49BB_1331_11EB);
-        z ^ (z >> 31)
-    }
-
-    /// From 0 to one below `end`.
-    fn below(&mut self, end: usize) -> usize {
-        (self.next() % end as u64) as usize
-    }
-
-    /// Both ends included.
-    fn between(&mut self, first: usize, last: usize) -> usize {
-        first + self.below(last - first + 1)
-    }
-
-    fn one_in(&mut self, count: usize) -> bool {
-        self.below(count) == 0
-    }
-
-    fn pick<T: Clone>(&mut self, from: &[T]) -> T {
-        from[self.below(from.len())].clone()
-    }
-
-    fn byte(&mut self) -> u8 {
-        self.next() as u8
-    }
-
-    /// A number that is not below the limit, and mostly looks as if it were
-    /// to whoever keeps too few bits of it. The limit is at most 128.
-    fn too_large(&mut self, limit: usize) -> u64 {
-        let looks = self.below(limit.max(1)) as u64;
-        let limit = limit as u64;
-        let choices =
-            [limit, limit, limit + 1, 254, 255, 256 + looks, (1 << 32) + looks, (1 << 63) + looks, u64::MAX];
-        self.pick(&choices)
-    }
-}
-
-// ---------------------------------------------------------------- shapes
-
-/// Which nodes are joined, before anything has a weight.
-#[derive(Clone)]
-struct Shape {
-    nodes: usize,
-    /// Low node first.
-    pairs: BTreeSet<(usize, usize)>,
-}
-
-impl Shape {
-    fn bare(nodes: usize) -> Shape {
-        Shape { nodes, pairs: BTreeSet::new() }
-    }
-
-    fn join(&mut self, one: usize, other: usize) {
-        self.pairs.insert((one.min(other), one.max(other)));
-    }
-
-    fn of(nodes: usize, pairs: impl IntoIterator<Item = (usize, usize)>) -> Shape {
-        let mut shape = Shape::bare(nodes);
-        for (one, other) in pairs {
-            shape.join(one, other);
-        }
-        shape
-    }
-
-    fn chain(nodes: usize) -> Shape {
-        Shape::of(nodes, (1..nodes).map(|node| (node - 1, node)))
-    }
-
-    fn star(nodes: usize) -> Shape {
-        Shape::of(nodes, (1..nodes).map(|node| (0, node)))
-    }
-
-    fn ring(nodes: usize) -> Shape {
-        Shape::circle(nodes, &[1])
-    }
-
-    /// Each node joined to those so many places further round.
-    fn circle(nodes: usize, offsets: &[usize]) -> Shape {
-        let pairs = offsets
-            .iter()
-            .flat_map(|offset| (0..nodes).map(move |node| (node, (node + offset) % nodes)));
-        Shape::of(nodes, pairs.filter(|(one, other)| one != other))
-    }
-
-    fn complete(nodes: usize) -> Shape {
-        Shape::of(nodes, (0..nodes).flat_map(|high| (0..high).map(move |low| (low, high))))
-    }
-
-    fn grid(rows: usize, columns: usize) -> Shape {
-        let mut shape = Shape::bare(rows * columns);
-        for node in 0..rows * columns {
-            if node % columns + 1 < columns {
-                shape.join(node, node + 1);
-            }
-            if node + columns < rows * columns {
-                shape.join(node, node + columns);
-            }
-        }
-        shape
-    }
-
-    /// Nodes joined whose numbers differ in one bit.
-    fn cube(bits: usize) -> Shape {
-        let nodes = 1 << bits;
-        Shape::of(nodes, (0..nodes).flat_map(|node| (0..bits).map(move |bit| (node, node ^ 1 << bit))))
-    }
-
-    fn tree(chance: &mut Chance, nodes: usize) -> Shape {
-        let mut shape = Shape::bare(nodes);
-        for node in 1..nodes {
-            shape.join(chance.below(node), node);
-        }
-        shape
-    }
-
-    /// With so many links in all, as far as there are pairs for them.
-    fn filled(mut self, chance: &mut Chance, links: usize) -> Shape {
-        let most = self.nodes * (self.nodes - 1) / 2;
-        while self.pairs.len() < links.min(most) {
-            let (one, other) = (chance.below(self.nodes), chance.below(self.nodes));
-            if one != other {
-                self.join(one, other);
-            }
-        }
-        self
-    }
-
-    /// Two shapes side by side, not joined.
-    fn beside(&self, other: &Shape) -> Shape {
-        let moved = other.pairs.iter().map(|&(low, high)| (low + self.nodes, high + self.nodes));
-        Shape::of(self.nodes + other.nodes, self.pairs.iter().copied().chain(moved))
-    }
-
-    /// Two shapes joined by one link, which is a bridge.
-    fn bridged(&self, chance: &mut Chance, other: &Shape) -> Shape {
-        let mut both = self.beside(other);
-        both.join(chance.below(self.nodes), self.nodes + chance.below(other.nodes));
-        both
-    }
-
-    /// The same with other node numbers, and so other link numbers, which
-    /// decide between equal paths.
-    fn renumbered(&self, chance: &mut Chance) -> Shape {
-        let mut number: Vec<usize> = (0..self.nodes).collect();
-        for place in 1..self.nodes {
-            number.swap(place, chance.below(place + 1));
-        }
-        Shape::of(self.nodes, self.pairs.iter().map(|&(low, high)| (number[low], number[high])))
-    }
-}
-
-// -------------------------------------------------------------- networks
-
-/// How the weights of a network are drawn.
-#[derive(Clone, Copy)]
-enum Weights {
-    All(u32),
-    UpTo(u32),
-    Extreme,
-}
-
-/// With few different weights most pairs have several best sums.
-const TIES: [Weights; 4] = [Weights::All(1), Weights::UpTo(2), Weights::UpTo(3), Weights::UpTo(3)];
-
-/// A network as it stands in a record; it may be put wrong afterwards.
-#[derive(Clone)]
-struct Net {
-    nodes: u64,
-    lows: Vec<u8>,
-    highs: Vec<u8>,
-    weights: Vec<u32>,
-}
-
-impl Net {
-    fn of(chance: &mut Chance, shape: &Shape, weights: Weights) -> Net {
-        assert!((1..=32).contains(&shape.nodes) && shape.pairs.len() <= LONGEST_ROW);
-        let weigh = |_| match weights {
-            Weights::All(weight) => weight,
-            Weights::UpTo(most) => chance.between(1, most as usize) as u32,
-            Weights::Extreme => chance.pick(&[1, 2, 32_767, 32_768, 65_534, 65_535]),
-        };
-        // The pairs are kept in ascending order, which links must have.
-        Net {
-            nodes: shape.nodes as u64,
-            lows: shape.pairs.iter().map(|pair| pair.0 as u8).collect(),
-            highs: shape.pairs.iter().map(|pair| pair.1 as u8).collect(),
-            weights: shape.pairs.iter().map(weigh).collect(),
-        }
-    }
-
-    /// From links in their order: low end, high end, weight.
-    fn listed(nodes: u64, links: &[(u8, u8, u32)]) -> Net {
-        Net {
-            nodes,
-            lows: links.iter().map(|link| link.0).collect(),
-            highs: links.iter().map(|link| link.1).collect(),
-            weights: links.iter().map(|link| link.2).collect(),
-        }
-    }
-
-    fn size(&self) -> usize {
-        self.nodes as usize
-    }
-
-    fn links(&self) -> usize {
-        self.lows.len()
-    }
-
-    fn interfaces(&self) -> usize {
-        2 * self.links()
-    }
-
-    /// The node that an interface leaves, and the node that it enters.
-    fn ends(&self, interface: usize) -> (usize, usize) {
-        let link = interface / 2;
-        let (low, high) = (usize::from(self.lows[link]), usize::from(self.highs[link]));
-        if interface % 2 == 0 { (low, high) } else { (high, low) }
-    }
-
-    fn interface(&self, from: usize, to: usize) -> Option<usize> {
-        (0..self.interfaces()).find(|&interface| self.ends(interface) == (from, to))
-    }
-
-    fn neighbours(&self, node: usize) -> Vec<usize> {
-        let leaving = (0..self.interfaces()).map(|interface| self.ends(interface));
-        leaving.filter(|ends| ends.0 == node).map(|ends| ends.1).collect()
-    }
-
-    /// How many links away each node is, far too many if it is not joined.
-    /// Only to draw tables that lead somewhere; weights play no part.
-    fn distances(&self, from: usize) -> Vec<usize> {
-        let mut distances = vec![usize::MAX / 2; self.size()];
-        distances[from] = 0;
-        for _ in 0..self.size() {
-            for interface in 0..self.interfaces() {
-                let (tail, head) = self.ends(interface);
-                distances[head] = distances[head].min(distances[tail] + 1);
-            }
-        }
-        distances
-    }
-
-    fn bytes(&self) -> Vec<u8> {
-        let lengths = [self.lows.len(), self.highs.len(), self.weights.len()];
-        assert!(lengths.iter().all(|&length| length <= LONGEST_ROW));
-        let mut bytes = self.nodes.to_le_bytes().to_vec();
-        bytes.extend(lengths.map(|length| length as u8));
-        bytes.extend(&self.lows);
-        bytes.extend(&self.highs);
-        for weight in &self.weights {
-            bytes.extend(weight.to_le_bytes());
-        }
-        bytes
-    }
-
-    fn with_nodes(&self, nodes: u64) -> Net {
-        Net { nodes, ..self.clone() }
-    }
-
-    fn with_link(&self, link: usize, low: u8, high: u8, weight: u32) -> Net {
-        let mut other = self.clone();
-        other.lows[link] = low;
-        other.highs[link] = high;
-        other.weights[link] = weight;
-        other
-    }
-
-    fn with_lengths(&self, lows: usize, highs: usize, weights: usize) -> Net {
-        let mut other = self.clone();
-        other.lows.resize(lows, 1);
-        other.highs.resize(highs, 2);
-        other.weights.resize(weights, 3);
-        other
-    }
-}
-
-type NetCase = (&'static str, Net);
-
-/// The deliberate networks.
-fn net_list(chance: &mut Chance) -> Vec<NetCase> {
-    // Document 01's own: plan A, the square, two nodes.
-    let plan_a = Net::listed(4, &[(0, 1, 1), (0, 2, 4), (0, 3, 9), (1, 2, 1), (2, 3, 1)]);
-    let square = Net::listed(4, &[(0, 1, 1), (0, 2, 1), (1, 3, 1), (2, 3, 1)]);
-    let pair = Net::listed(2, &[(0, 1, 1)]);
-    let mut list = vec![("bench sheet", plan_a), ("bench sheet", square), ("bench sheet", pair)];
-
-    let mut shapes: Vec<(&'static str, Shape)> = vec![("one node", Shape::bare(1))];
-    for nodes in [2, 3, 5, 17, 32] {
-        shapes.push(("no links", Shape::bare(nodes)));
-    }
-    for nodes in [3, 4, 5, 6, 8, 32] {
-        shapes.push(("chain", Shape::chain(nodes)));
-        shapes.push(("star", Shape::star(nodes)));
-        shapes.push(("tree", Shape::tree(chance, nodes)));
-        shapes.push(("ring", Shape::ring(nodes)));
-    }
-    for nodes in [3, 4, 5, 6, 7, 8, 11] {
-        shapes.push(("complete", Shape::complete(nodes)));
-    }
-    for (rows, columns) in [(2, 3), (2, 4), (3, 3), (2, 8), (4, 4), (4, 8)] {
-        shapes.push(("grid", Shape::grid(rows, columns)));
-    }
-    for bits in [3, 4] {
-        shapes.push(("cube", Shape::cube(bits)));
-    }
-    for nodes in [5, 7, 12] {
-        shapes.push(("circle with chords", Shape::circle(nodes, &[1, 2])));
-    }
-    for offset in [2, 5, 12] {
-        shapes.push(("32 nodes, 64 links", Shape::circle(32, &[1, offset])));
-    }
-    for _ in 0..4 {
-        let shape = Shape::tree(chance, 32).filled(chance, MOST_LINKS);
-        shapes.push(("32 nodes, 64 links", shape));
-    }
-    shapes.push(("32 nodes, 64 links", Shape::bare(32).filled(chance, MOST_LINKS)));
-    for (one, other) in [(3, 3), (4, 3), (5, 4), (8, 8), (16, 16)] {
-        let (one, other) = (Shape::ring(one), Shape::ring(other));
-        shapes.push(("bridge", one.bridged(chance, &other)));
-        shapes.push(("separate parts", one.beside(&other)));
-        let third = one.bridged(chance, &Shape::chain(2)).bridged(chance, &Shape::ring(3));
-        if third.nodes + other.nodes <= 32 {
-            shapes.push(("bridges and separate parts", third.beside(&other)));
-        }
-    }
-    shapes.push(("separate parts", Shape::bare(3).beside(&Shape::complete(4))));
-    shapes.push(("separate parts", Shape::chain(2).beside(&Shape::chain(2)).beside(&Shape::ring(4))));
-
-    for (name, shape) in &shapes {
-        list.push((*name, Net::of(chance, shape, Weights::All(1))));
-        // Without links there is nothing that other weights could change.
-        if !shape.pairs.is_empty() {
-            let shape = shape.renumbered(chance);
-            list.push((*name, Net::of(chance, &shape, Weights::UpTo(3))));
-        }
-    }
-    for weights in [Weights::All(65_535), Weights::Extreme, Weights::UpTo(65_535)] {
-        for shape in [Shape::complete(6), Shape::circle(16, &[1, 3]), Shape::chain(32)] {
-            let shape = shape.renumbered(chance);
-            list.push(("large weights", Net::of(chance, &shape, weights)));
-        }
-    }
-    list
-}
-
-fn part_at_random(chance: &mut Chance, nodes: usize) -> Shape {
-    match chance.below(7) {
-        0 => Shape::tree(chance, nodes),
-        1 if nodes >= 3 => Shape::ring(nodes),
-        2 => Shape::bare(nodes).filled(chance, nodes),
-        _ => {
-            let links = chance.between(nodes - 1, 2 * nodes + 2);
-            Shape::tree(chance, nodes).filled(chance, links)
-        }
-    }
-}
-
-fn net_at_random(chance: &mut Chance) -> NetCase {
-    let nodes = match chance.below(10) {
-        0..6 => chance.between(2, 8),
-        6..9 => chance.between(9, 16),
-        _ => chance.between(17, 32),
-    };
-    let (name, shape) = match chance.below(6) {
-        0 if nodes >= 4 => {
-            let cut = chance.between(2, nodes - 2);
-            let (one, other) = (part_at_random(chance, cut), part_at_random(chance, nodes - cut));
-            ("separate parts at random", one.beside(&other))
-        }
-        1 if nodes >= 4 => {
-            let cut = chance.between(2, nodes - 2);
-            let (one, other) = (part_at_random(chance, cut), part_at_random(chance, nodes - cut));
-            ("bridge at random", one.bridged(chance, &other))
-        }
-        _ => ("at random", part_at_random(chance, nodes)),
-    };
-    // A part, or two together, may have more links than a plan may.
-    let mut shape = shape.renumbered(chance);
-    while shape.pairs.len() > MOST_LINKS {
-        shape.pairs.pop_last();
-    }
-    let weights = match chance.below(8) {
-        0 => Weights::UpTo(9),
-        1 => chance.pick(&[Weights::UpTo(65_535), Weights::Extreme]),
-        _ => chance.pick(&TIES),
-    };
-    (name, Net::of(chance, &shape, weights))
-}
 
 /// Networks that are refused: each fault, at the first, a middle and the last
 /// link, and several at once.
@@ -471,28 +63,26 @@ fn bad_list(chance: &mut Chance) -> Vec<NetCase> {
         let shape = Shape::tree(chance, 32).filled(chance, links);
         let many = Net::of(chance, &shape, Weights::UpTo(3));
         list.push(("too many links", many.clone()));
-        list.push(("too many links and a bad one", many.with_link(0, 9, 9, 0)));
+        list.push(("too many links and a bad one", many.with_ends(0, 9, 9).with_weight(0, 0)));
     }
     for net in [&small, &full] {
         let last = net.links() - 1;
         let n = net.nodes as u8;
         for link in [0, last / 2, last] {
-            let (low, high, weight) = (net.lows[link], net.highs[link], net.weights[link]);
+            let (low, high) = (net.lows[link], net.highs[link]);
             for (low, high) in [(0, n), (n - 1, n), (high, low), (low, low), (n, n + 1), (255, 255)] {
-                list.push(("ends", net.with_link(link, low, high, weight)));
+                list.push(("ends", net.with_ends(link, low, high)));
             }
             for weight in [0, 65_536, u32::MAX] {
-                list.push(("weight", net.with_link(link, low, high, weight)));
+                list.push(("weight", net.with_weight(link, weight)));
             }
         }
         for link in [1, last / 2, last] {
-            let (low, high) = (net.lows[link - 1], net.highs[link - 1]);
-            let weight = net.weights[link];
-            list.push(("order", net.with_link(link, low, high, weight)));
-            list.push(("order", net.with_link(link, 0, 1, weight)));
-            list.push(("order and weight", net.with_link(link, low, high, 0)));
-            let earlier = net.with_link(link, low, high, weight).with_link(link - 1, low, high, 0);
-            list.push(("weight, then order", earlier));
+            let equal = net.with_ends(link, net.lows[link - 1], net.highs[link - 1]);
+            list.push(("order", equal.clone()));
+            list.push(("order", net.with_ends(link, 0, 1)));
+            list.push(("order and weight", equal.with_weight(link, 0)));
+            list.push(("weight, then order", equal.with_weight(link - 1, 0)));
         }
     }
     list
@@ -977,35 +567,26 @@ fn push_bad(chance: &mut Chance, made: &mut Made, case: &str, bad: &Net, near: &
     made.push('F', &case, &[&network, &tables, &failure]);
 }
 
-// ----------------------------------------------------------------- main
+// ------------------------------------------------------------- the batch
 
-fn run() -> Result<(), String> {
-    let arguments: Vec<String> = std::env::args().skip(1).collect();
-    let [seed, count] = arguments.as_slice() else {
-        return Err("give a seed and a count of networks".to_string());
-    };
-    let seed: u64 = seed.parse().map_err(|_| "the seed is no number".to_string())?;
-    let count: usize = count.parse().map_err(|_| "the count is no number".to_string())?;
-
-    let mut chance = Chance(seed);
+pub fn make(chance: &mut Chance, count: usize) -> Vec<u8> {
     let mut made = Made { batch: Vec::new(), cases: BTreeMap::new(), kinds: BTreeMap::new() };
-    let mut listed = net_list(&mut chance).into_iter();
+    let mut listed = net_list(chance).into_iter();
     let mut names: BTreeMap<&'static str, usize> = BTreeMap::new();
     let mut walks = 0;
     let mut full = 0;
     for _ in 0..count {
-        let (name, net) = listed.next().unwrap_or_else(|| net_at_random(&mut chance));
+        let (name, net) = listed.next().unwrap_or_else(|| net_at_random(chance));
         *names.entry(name).or_default() += 1;
         walks += (net.links() + 1) * net.size() * net.size();
         full += usize::from(net.size() == 32 && net.links() == MOST_LINKS);
-        push_good(&mut chance, &mut made, &net);
+        push_good(chance, &mut made, &net);
     }
-    push_row_list(&mut chance, &mut made);
-    let near = Net::of(&mut chance, &Shape::grid(2, 3), Weights::UpTo(3));
-    for (case, bad) in bad_list(&mut chance) {
-        push_bad(&mut chance, &mut made, case, &bad, &near);
+    push_row_list(chance, &mut made);
+    let near = Net::of(chance, &Shape::grid(2, 3), Weights::UpTo(3));
+    for (case, bad) in bad_list(chance) {
+        push_bad(chance, &mut made, case, &bad, &near);
     }
-    io::stdout().lock().write_all(&made.batch).map_err(|fault| fault.to_string())?;
 
     for (name, number) in names {
         eprintln!("{number:6} networks: {name}");
@@ -1020,15 +601,5 @@ fn run() -> Result<(), String> {
     if listed.len() > 0 {
         eprintln!("{:6} deliberate networks left out: the count is too small for them", listed.len());
     }
-    Ok(())
-}
-
-fn main() -> ExitCode {
-    match run() {
-        Ok(()) => ExitCode::SUCCESS,
-        Err(fault) => {
-            eprintln!("make_networks: {fault}");
-            ExitCode::from(2)
-        }
-    }
+    made.batch
 }

@@ -1,0 +1,308 @@
+//! Sub-command `codec`: a batch of stored plans and of networks in memory, for
+//! the plan reader and writer. It reaches every refusal, every limit and what
+//! lies one past it.
+//!
+//! Of every six records five are plans and one is a network. Each of the two
+//! sorts first runs through its list of deliberate cases and is then filled up
+//! at random.
+//!
+//! Batch format: records one after another until the end. Numbers of several
+//! bytes stand low byte first.
+//!
+//!   A stored plan:
+//!     kind          1 byte, `P` (0x50)
+//!     length        2 bytes
+//!     plan          that many bytes
+//!
+//!   A network in memory, and a room for its plan:
+//!     kind          1 byte, `N` (0x4E)
+//!     node count    8 bytes
+//!     row lengths   1 byte each: low ends, high ends, weights; at most 80
+//!     low ends      1 byte each
+//!     high ends     1 byte each
+//!     weights       4 bytes each
+//!     room          2 bytes, the room's length, at most 400
+//!
+//! The reader of the batch fills the room with bytes 0xEE first.
+
+use crate::chance::Chance;
+use crate::networks::{Net, LONGEST_ROW, PLAN_A};
+use crate::stored::{draw, draw_any, draw_with, longest, plan_at_random, plan_list, Draft};
+use std::collections::BTreeMap;
+
+fn plan_record(plan: &[u8]) -> Vec<u8> {
+    let length = u16::try_from(plan.len()).expect("plans stay short");
+    let mut record = vec![b'P'];
+    record.extend(length.to_le_bytes());
+    record.extend(plan);
+    record
+}
+
+// ------------------------------------------------------------- networks
+
+const LONGEST_ROOM: usize = 400;
+
+/// A network, and the length of a room for its plan.
+#[derive(Clone)]
+struct Memory {
+    net: Net,
+    room: usize,
+}
+
+impl Memory {
+    /// The drafted network with just the room that its plan needs, as far as
+    /// a record can ask for it.
+    fn of(draft: &Draft) -> Memory {
+        let net = Net::listed(draft.nodes, &draft.links);
+        Memory { net, room: draft.plan().len().min(LONGEST_ROOM) }
+    }
+
+    fn with_room(&self, room: usize) -> Memory {
+        Memory { room, ..self.clone() }
+    }
+
+    /// The same room for another network.
+    fn with(&self, net: Net) -> Memory {
+        Memory { net, room: self.room }
+    }
+
+    fn record(&self) -> Vec<u8> {
+        assert!(self.room <= LONGEST_ROOM);
+        let room = self.room as u16;
+        [&b"N"[..], &self.net.bytes(), &room.to_le_bytes()].concat()
+    }
+}
+
+type MemoryCase = (&'static str, Memory);
+
+const BAD_NODE_COUNTS: [u64; 11] = [
+    0,
+    33,
+    34,
+    255,
+    256,
+    // These look like four nodes to whoever keeps too few bits of them.
+    256 + 4,
+    65_536 + 4,
+    (1 << 32) + 4,
+    (1 << 63) + 4,
+    u64::MAX - 1,
+    u64::MAX,
+];
+
+const BAD_WEIGHTS: [u32; 7] =
+    [0, 65_536, 65_537, 1 << 24, 1 << 31, u32::MAX - 65_535, u32::MAX];
+
+/// Link ends that are refused whatever the other links say.
+fn bad_ends(nodes: u8) -> Vec<(u8, u8)> {
+    vec![
+        (0, nodes),
+        (0, 255),
+        (nodes - 1, nodes),
+        (nodes - 1, nodes - 1),
+        (nodes - 1, nodes - 2),
+        (0, 0),
+        (nodes, nodes + 1),
+        (nodes, 0),
+        (254, 255),
+        (255, 255),
+        (255, 0),
+    ]
+}
+
+/// The deliberate networks.
+fn memory_list(chance: &mut Chance) -> Vec<MemoryCase> {
+    let mut list: Vec<MemoryCase> = Vec::new();
+    let longest = Memory::of(&longest(chance));
+    let a = Memory::of(&Draft { nodes: 4, links: PLAN_A.to_vec() });
+
+    // Valid, with many rooms.
+    let mut valid = vec![
+        Memory::of(&draw(chance, 1, 0)),
+        Memory::of(&draw(chance, 32, 0)),
+        Memory::of(&draw(chance, 2, 1)),
+        Memory::of(&draw(chance, 32, 64)),
+        a.clone(),
+        longest.clone(),
+    ];
+    for _ in 0..3 {
+        valid.push(Memory::of(&draw_with(chance, 1)));
+    }
+    for memory in &valid {
+        let exact = memory.room;
+        for room in [exact, exact + 1, exact + 40, LONGEST_ROOM] {
+            list.push(("network: valid, room enough", memory.with_room(room.min(LONGEST_ROOM))));
+        }
+        list.push(("network: valid, room one short", memory.with_room(exact - 1)));
+        list.push(("network: valid, room short", memory.with_room(exact / 2)));
+        list.push(("network: valid, no room", memory.with_room(0)));
+    }
+
+    // Rows of unequal length, alone and with every other fault.
+    let l = a.net.links();
+    for (lows, highs, weights) in [
+        (l - 1, l, l),
+        (l, l - 1, l),
+        (l, l, l - 1),
+        (l + 1, l, l),
+        (l, l + 1, l),
+        (l, l, l + 1),
+        (l - 1, l - 1, l),
+        (l, l - 1, l - 1),
+        (l - 1, l, l + 1),
+        (0, l, l),
+        (l, 0, l),
+        (l, l, 0),
+        (80, 80, 79),
+        (65, 64, 64),
+        (64, 64, 80),
+    ] {
+        let faulty = a.with(a.net.with_lengths(lows, highs, weights));
+        list.push(("network: unequal rows", faulty.clone()));
+        if chance.one_in(2) {
+            let net = faulty.net.with_nodes(chance.pick(&BAD_NODE_COUNTS));
+            list.push(("network: unequal rows and more", Memory { net, room: 0 }));
+        }
+    }
+
+    // Node counts, alone and with bad links behind them.
+    for nodes in BAD_NODE_COUNTS {
+        list.push(("network: node count", a.with(a.net.with_nodes(nodes))));
+        list.push(("network: node count", valid[0].with(valid[0].net.with_nodes(nodes))));
+        let net = longest.net.with_nodes(nodes).with_weight(0, 0);
+        list.push(("network: node count", Memory { net, room: 0 }));
+    }
+    for nodes in [1, 3, 4, 5, 32] {
+        list.push(("network: node count", a.with(a.net.with_nodes(nodes))));
+    }
+    list.push(("network: node count", longest.with(longest.net.with_nodes(31))));
+    let overlong = longest.net.with_lengths(80, 80, 80);
+    list.push(("network: node count", longest.with(overlong.with_nodes(0))));
+
+    // Too many links, with a bad first link as well.
+    for links in [65, 66, 79, 80] {
+        let memory = Memory::of(&draw(chance, 32, links));
+        list.push(("network: over 64 links", memory.clone()));
+        list.push(("network: over 64 links", Memory { net: memory.net.with_ends(0, 9, 9), room: 0 }));
+        list.push(("network: over 64 links", memory.with(memory.net.with_nodes(1))));
+    }
+
+    // Each fault of a link, at the first, a middle and the last link.
+    let middling = Memory::of(&draw(chance, 9, 7));
+    for memory in [&middling, &longest] {
+        let net = &memory.net;
+        let last = net.links() - 1;
+        for link in [0, last / 2, last] {
+            for (low, high) in bad_ends(net.nodes as u8) {
+                list.push(("network: ends", memory.with(net.with_ends(link, low, high))));
+            }
+            for weight in BAD_WEIGHTS {
+                list.push(("network: weight", memory.with(net.with_weight(link, weight))));
+            }
+            for weight in [1, 65_535] {
+                let memory = memory.with(net.with_weight(link, weight));
+                list.push(("network: weight at its limit", memory));
+            }
+        }
+        for link in [1, last / 2, last] {
+            let (low, high) = (net.lows[link - 1], net.highs[link - 1]);
+            let equal = net.with_ends(link, low, high);
+            list.push(("network: order", memory.with(equal.clone())));
+            list.push(("network: order", memory.with(net.with_ends(link, 0, 1))));
+            if low > 0 {
+                let earlier = net.with_ends(link, low - 1, net.nodes as u8 - 1);
+                list.push(("network: order", memory.with(earlier)));
+            }
+            // Which of several faults is named.
+            let unweighed = Memory { net: equal.with_weight(link, 0), room: 0 };
+            list.push(("network: several faults", unweighed));
+            list.push(("network: several faults", memory.with(equal.with_weight(link - 1, u32::MAX))));
+            let both = net.with_ends(link, 0, 0).with_weight(link, 0);
+            list.push(("network: several faults", memory.with(both.clone())));
+            list.push(("network: several faults", memory.with(both.with_weight(link - 1, 65_536))));
+        }
+    }
+    list
+}
+
+fn room_at_random(chance: &mut Chance, exact: usize) -> usize {
+    match chance.below(4) {
+        0 => exact,
+        1 => exact.saturating_sub(1 + chance.below(3)),
+        2 => (exact + chance.below(9)).min(LONGEST_ROOM),
+        _ => chance.below(LONGEST_ROOM + 1),
+    }
+}
+
+fn fault_at_random(chance: &mut Chance, net: Net) -> Net {
+    let mut lengths = [net.lows.len(), net.highs.len(), net.weights.len()];
+    let links = lengths[0].min(lengths[1]).min(lengths[2]);
+    match chance.below(if links == 0 { 2 } else { 6 }) {
+        0 if chance.one_in(2) => net.with_nodes(chance.pick(&BAD_NODE_COUNTS)),
+        0 => net.with_nodes(chance.between(0, 34) as u64),
+        1 => {
+            lengths[chance.below(3)] = chance.below(LONGEST_ROW + 1);
+            net.with_lengths(lengths[0], lengths[1], lengths[2])
+        }
+        2 => net.with_ends(chance.below(links), chance.below(34) as u8, chance.below(34) as u8),
+        3 => net.with_ends(chance.below(links), chance.byte(), chance.byte()),
+        4 => {
+            let (one, other) = (chance.below(links), chance.below(links));
+            let mut net = net;
+            net.lows.swap(one, other);
+            net.highs.swap(one, other);
+            net
+        }
+        _ => {
+            let weight = if chance.one_in(2) { chance.pick(&BAD_WEIGHTS) } else { chance.next() as u32 };
+            net.with_weight(chance.below(links), weight)
+        }
+    }
+}
+
+fn memory_at_random(chance: &mut Chance) -> MemoryCase {
+    let mut memory = Memory::of(&draw_any(chance));
+    memory.room = room_at_random(chance, memory.room);
+    if chance.one_in(3) {
+        return ("network: valid at random", memory);
+    }
+    for _ in 0..=chance.below(2) {
+        memory.net = fault_at_random(chance, memory.net);
+    }
+    ("network: faults at random", memory)
+}
+
+// ------------------------------------------------------------- the batch
+
+pub fn make(chance: &mut Chance, count: usize) -> Vec<u8> {
+    let plans = plan_list(chance);
+    let memories = memory_list(chance);
+    let (mut next_plan, mut next_memory) = (plans.into_iter(), memories.into_iter());
+
+    let mut kinds: BTreeMap<&'static str, usize> = BTreeMap::new();
+    let mut sorts = [0, 0];
+    let mut batch = Vec::new();
+    for number in 0..count {
+        let (kind, record) = if number % 6 == 5 {
+            sorts[1] += 1;
+            let (kind, memory) = next_memory.next().unwrap_or_else(|| memory_at_random(chance));
+            (kind, memory.record())
+        } else {
+            sorts[0] += 1;
+            let (kind, plan) = next_plan.next().unwrap_or_else(|| plan_at_random(chance));
+            (kind, plan_record(&plan))
+        };
+        *kinds.entry(kind).or_default() += 1;
+        batch.extend(record);
+    }
+
+    for (kind, made) in kinds {
+        eprintln!("{made:6} {kind}");
+    }
+    eprintln!("{count:6} records: {} plans, {} networks", sorts[0], sorts[1]);
+    let left = next_plan.len() + next_memory.len();
+    if left > 0 {
+        eprintln!("{left:6} deliberate cases left out: the count is too small for them");
+    }
+    batch
+}

@@ -1,0 +1,70 @@
+//! Sub-command `reports`: a batch of stored plans, for whole reports on them.
+//! Those that are accepted have shapes of every kind, equal paths, the largest
+//! size and weights at their limits; the others reach refusals 1 to 8.
+//!
+//! Deliberate plans come first. COUNT plans at random follow: two of three are
+//! small and good, the third may be anything.
+//!
+//! Batch format: a line for each plan, its bytes in hex. The line of a plan of
+//! no bytes is empty.
+
+use crate::chance::Chance;
+use crate::networks::{net_list, net_of_size, Net, Weights, MOST_LINKS};
+use crate::shapes::Shape;
+use crate::stored::{longest, plan_at_random, plan_list, Draft};
+
+const FULL_PLANS: usize = 84;
+const FAR_TOO_LONG: usize = 100_000;
+
+fn plan_of(net: &Net) -> Vec<u8> {
+    Draft::of(net).plan()
+}
+
+/// Plans of 32 nodes and 64 links, all sites joined. The weights go round
+/// from those that make the most equal paths to those that make none.
+fn full_plans(chance: &mut Chance) -> Vec<Vec<u8>> {
+    let weights = [Weights::All(1), Weights::UpTo(3), Weights::UpTo(65_535), Weights::Extreme];
+    let mut plans = Vec::new();
+    for number in 0..FULL_PLANS {
+        let shape = Shape::tree(chance, 32).filled(chance, MOST_LINKS).renumbered(chance);
+        plans.push(plan_of(&Net::of(chance, &shape, weights[number % weights.len()])));
+    }
+    plans
+}
+
+/// Far more bytes than a plan can have: a good plan and what is left over,
+/// then one byte over and over.
+fn overlong_plans(chance: &mut Chance) -> Vec<Vec<u8>> {
+    let mut plans = vec![longest(chance).plan()];
+    plans.extend([0x00, 0x01, 0x80, 0xFF].map(|byte| vec![byte]));
+    for plan in &mut plans {
+        let filler = plan[plan.len() - 1];
+        plan.resize(FAR_TOO_LONG, filler);
+    }
+    plans
+}
+
+fn plan_drawn(chance: &mut Chance) -> Vec<u8> {
+    if chance.one_in(3) {
+        return plan_at_random(chance).1;
+    }
+    let nodes = chance.between(1, 8);
+    plan_of(&net_of_size(chance, nodes).1)
+}
+
+pub fn make(chance: &mut Chance, count: usize) -> Vec<u8> {
+    let mut plans = full_plans(chance);
+    plans.extend(overlong_plans(chance));
+    plans.extend(net_list(chance).iter().map(|(_, net)| plan_of(net)));
+    // The reader alone is compared on all of these (codec_batch.rs); here a
+    // third is enough, with every kind of case in it.
+    plans.extend(plan_list(chance).into_iter().step_by(3).map(|(_, plan)| plan));
+    let deliberate = plans.len();
+    for _ in 0..count {
+        plans.push(plan_drawn(chance));
+    }
+    eprintln!("{:6} plans: {deliberate} deliberate, {count} at random", plans.len());
+
+    let line = |plan: &Vec<u8>| plan.iter().map(|byte| format!("{byte:02x}")).collect::<String>() + "\n";
+    plans.iter().map(line).collect::<String>().into_bytes()
+}
