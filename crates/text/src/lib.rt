@@ -1,4 +1,7 @@
 // What the programs share: bytes and numbers to standard output, bytes, numbers and rows from standard input, and the front of a row.
+ghost use mathlib.Core.Path.{_≡_};
+ghost use lib.ListN.{take};
+ghost use Rattle.text.specs.Bytes.{shiftedBy, numberOf};
 use libc::STDIN_FILENO;
 use libc::STDOUT_FILENO;
 
@@ -29,7 +32,9 @@ pub fn hex(bytes: &[u8]) {
 }
 
 // The bytes as one number, low byte first; those past the eighth do not count.
-pub fn number_of(bytes: &[u8]) -> u64 {
+pub fn number_of(bytes: &[u8]) -> u64
+    ensures { λ r. ⌜ r ≡ numberOf (now (bytes .entry)) ⌝ }
+{
     let mut value: u64 = 0;
     let mut i = bytes.len();
     while 0 < i {
@@ -40,7 +45,9 @@ pub fn number_of(bytes: &[u8]) -> u64 {
 }
 
 // The number moved up by one byte, with this byte below it; what goes past 2^64 falls away.
-fn shifted(value: u64, byte: u8) -> u64 {
+fn shifted(value: u64, byte: u8) -> u64
+    ensures { λ r. ⌜ r ≡ shiftedBy value byte ⌝ }
+{
     value % 72057594037927936 * 256 + byte as u64
 }
 
@@ -113,7 +120,9 @@ pub fn read_network() -> Rows {
 }
 
 // The first n bytes, or all where there are fewer.
-pub fn front(bytes: &[u8], n: usize) -> &[u8] {
+pub fn front(bytes: &[u8], n: usize) -> &[u8]
+    ensures { λ r. ⌜ now r ≡ take n (now (bytes .entry)) ⌝ }
+{
     if bytes.len() < n {
         return bytes;
     }
@@ -121,7 +130,9 @@ pub fn front(bytes: &[u8], n: usize) -> &[u8] {
 }
 
 // The same, to be written.
-pub fn front_room(bytes: &mut [u8], n: usize) -> &mut [u8] {
+pub fn front_room(bytes: &mut [u8], n: usize) -> &mut [u8]
+    ensures { λ r. ⌜ now r ≡ take n (now (bytes .entry)) ⌝ }
+{
     if bytes.len() < n {
         return bytes;
     }
@@ -129,7 +140,9 @@ pub fn front_room(bytes: &mut [u8], n: usize) -> &mut [u8] {
 }
 
 // The first n weights, or all where there are fewer.
-pub fn front_weights(weights: &[u32], n: usize) -> &[u32] {
+pub fn front_weights(weights: &[u32], n: usize) -> &[u32]
+    ensures { λ r. ⌜ now r ≡ take n (now (weights .entry)) ⌝ }
+{
     if weights.len() < n {
         return weights;
     }
