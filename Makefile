@@ -1,6 +1,8 @@
-# Two commands do all there is to do: `make report < FILE` and `make test`. They need the Rattle kit (rt), rustc and make. `make bench`
-# measures; it needs valgrind too.
-.PHONY: report test bench clean
+# Two commands do all there is to do: `make report < FILE` and `make test`. They need the Rattle kit (rt), rustc and make. `make compare` is
+# the part of `make test` that takes a minute; `make bench` measures, and needs valgrind too.
+.PHONY: report test compare bench clean
+# two runs of `rt check` would write the same files
+.NOTPARALLEL:
 
 # The report on a stored plan. What is built says nothing on standard output, so that the report is all there is.
 report: target/bin/nightplan
@@ -11,7 +13,11 @@ target/bin/%: crates.txt $(shell find crates -name '*.rt' -o -name '*.antt')
 
 # The proofs, the must-fail edits and the stored program runs, from nothing; then the comparison with the second program.
 test:
-	@sh second/test.sh
+	@sh compare/test.sh
+
+# The comparison alone (compare/README.md).
+compare: target/bin/nightplan target/bin/codec target/bin/answers
+	@sh compare/compare.sh
 
 # Instructions and time of nightplan against the second program (bench/README.md).
 bench: target/bin/nightplan

@@ -1,7 +1,7 @@
 //! Sub-command `codec`: the plan reader and writer, record by record.
 //!
-//! The batch is the one that generate/codec_batch.rs describes. One line for
-//! each record:
+//! The batch is the one that ../compare/generate/codec_batch.rs describes. One
+//! line for each record:
 //!
 //!   P record, refused:   refused NUMBER at PLACE
 //!   P record, accepted:  nodes N links M LOW-HIGH:WEIGHT ... plan HEX short R

@@ -1,8 +1,8 @@
 //! Sub-command `tables`: paths, key links, tables, steps and walks, record by
 //! record.
 //!
-//! The batch is the one that generate/tables_batch.rs describes. One line for
-//! each record, where N and P are the refusal number and its place:
+//! The batch is the one that ../compare/generate/tables_batch.rs describes. One
+//! line for each record, where N and P are the refusal number and its place:
 //!
 //!   T  tables N at P HASH [ROUTING FORWARDING BACKWARDING]
 //!   K  keys N at P SET

@@ -10,12 +10,13 @@
 //!
 //! Build:  rustc -O --edition 2021 -D warnings second.rs
 //!         (the other files of the program are found beside this one)
-//! Use:    second codec < batch > answers      batch of generate/codec_batch.rs
-//!         second tables < batch > answers     batch of generate/tables_batch.rs
+//! Use:    second codec < batch > answers      reader and writer of plans
+//!         second tables < batch > answers     paths, tables, steps and walks
 //!         second report < plan                a stored plan's report
 //!         second selftest                     reads nothing
 //!
-//! The forms of the answer lines stand in codec.rs and records.rs.
+//! What a batch looks like and the forms of the answer lines: codec.rs and
+//! records.rs.
 //! Exit status: 0, a refused plan's report included; 1 if the self-test found
 //! a fault; 2 if the arguments or the batch are not well formed.
 

@@ -1,7 +1,8 @@
 //! Makes what the comparison of the proved programs with the second program
-//! (second.rs) needs: batches of records and of stored plans; and the example
-//! plans that are drawn and not taken from a real network. It says nothing
-//! about the right answers, and it shares no code with the other programs.
+//! (../../second) needs: batches of records and of stored plans; and the
+//! example plans that are drawn and not taken from a real network. It says
+//! nothing about the right answers, and it shares no code with the other
+//! programs.
 //!
 //! Build:  rustc -O --edition 2021 -D warnings main.rs -o generate
 //!         (the other files of the program are found beside this one)
