@@ -1,8 +1,8 @@
 //! Compares the answers of two programs to one batch, record by record.
 //!
-//! It knows the batch formats (see codec_batch.rs and tables_batch.rs of the
-//! folder generate) only well enough to tell where each record ends; what a
-//! right answer is it does not know. It shares no code with the other programs.
+//! It knows of a batch only that each record begins with its kind and its
+//! length (FORMAT.md); what a right answer is it does not know. It shares no code
+//! with the other programs.
 //!
 //! Build:  rustc -O --edition 2021 -D warnings compare.rs
 //! Use:    compare BATCH PROVED_ANSWERS SECOND_ANSWERS LABEL
@@ -18,98 +18,24 @@ use std::process::ExitCode;
 
 const MOST_PRINTED: usize = 20;
 
-/// Goes over a record part by part, without a look at what the parts say
-/// beyond their lengths.
-struct Measure<'a> {
-    front: &'a [u8],
-    place: usize,
-}
-
-impl Measure<'_> {
-    fn skip(&mut self, count: usize) -> Option<()> {
-        self.place += count;
-        (self.place <= self.front.len()).then_some(())
-    }
-
-    /// A length of one or two bytes, low byte first.
-    fn length(&mut self, width: usize) -> Option<usize> {
-        let first = self.place;
-        self.skip(width)?;
-        let bytes = &self.front[first..self.place];
-        Some(bytes.iter().rev().fold(0, |sum, &b| 256 * sum + usize::from(b)))
-    }
-
-    /// Node count, row lengths, rows.
-    fn network(&mut self) -> Option<()> {
-        self.skip(8)?;
-        let (lows, highs, weights) = (self.length(1)?, self.length(1)?, self.length(1)?);
-        self.skip(lows + highs + 4 * weights)
-    }
-
-    /// A length and so many bytes: a stored plan, or a table.
-    fn counted(&mut self) -> Option<()> {
-        let length = self.length(2)?;
-        self.skip(length)
-    }
-
-    fn network_and_tables(&mut self) -> Option<()> {
-        self.network()?;
-        self.counted()?;
-        self.counted()?;
-        self.counted()
-    }
-}
-
-/// A byte for none or one link, and a number.
-const FAILURE: usize = 1 + 8;
-
-/// The length of the record at the front, or none if it isn't all there.
-fn record_length(front: &[u8]) -> Option<usize> {
-    let mut record = Measure { front, place: 1 };
-    match front.first()? {
-        b'P' => record.counted()?,
-        b'N' => {
-            record.network()?;
-            record.skip(2)?; // the room
-        }
-        b'T' => {
-            record.network()?;
-            record.skip(3 * 2)?; // three lengths
-        }
-        b'K' | b'B' => {
-            record.network()?;
-            record.skip(2 * 8)?; // interface or source, destination
-        }
-        b'R' => {
-            record.counted()?;
-            record.skip(2 * 8)?; // row length, interface
-        }
-        b'S' => {
-            record.network_and_tables()?;
-            record.skip(1 + 8 + 8 + FAILURE)?; // where, destination
-        }
-        b'W' => {
-            record.network_and_tables()?;
-            record.skip(8 + 8 + FAILURE + 1 + 2)?; // ends, limit, trace
-        }
-        b'A' => record.network()?,
-        b'F' => {
-            record.network_and_tables()?;
-            record.skip(FAILURE)?;
-        }
-        _ => return None,
-    }
-    Some(record.place)
+/// The record at the front of a batch, head included, and what follows it; or
+/// none if it isn't all there.
+fn split(batch: &[u8]) -> Option<(&[u8], &[u8])> {
+    let (head, _) = batch.split_first_chunk()?;
+    let [_kind, length @ ..]: &[u8; 5] = head;
+    let length = usize::try_from(u32::from_le_bytes(*length)).ok()?;
+    batch.split_at_checked(head.len() + length)
 }
 
 fn records(batch: &[u8]) -> Result<Vec<&[u8]>, String> {
     let mut all = Vec::new();
-    let mut place = 0;
-    while place < batch.len() {
-        let length = record_length(&batch[place..])
-            .ok_or_else(|| format!("record {} at byte {place} is broken", all.len()))?;
-        all.push(&batch[place..place + length]);
-        place += length;
+    let mut left = batch;
+    while !left.is_empty() {
+        let place = batch.len() - left.len();
+        let (record, rest) =
+            split(left).ok_or_else(|| format!("record {} at byte {place} is cut short", all.len()))?;
+        all.push(record);
+        left = rest;
     }
     Ok(all)
 }

@@ -1,5 +1,5 @@
 //! Compares whole reports: runs two report programs on each stored plan of a
-//! batch (generate/reports_batch.rs) and of further files.
+//! batch of plans (FORMAT.md) and of further files.
 //!
 //! What a right report is it does not know. It shares no code with the other
 //! programs.

@@ -1,45 +1,77 @@
-//! Takes the parts of records from the front of a batch. Which parts a record
-//! has, its reader knows (codec.rs, records.rs). A batch that does not hold
-//! what is due is an error of the comparison itself, never an answer.
+//! Takes a batch apart: into records, and a record into its fields. What a
+//! batch looks like: ../compare/FORMAT.md. Which fields a record has, its
+//! reader knows (codec.rs, records.rs). A batch that does not hold what is due,
+//! or more than that, is an error of the comparison itself, never an answer.
 
 use crate::network::Network;
 
 const MOST_ROW: usize = 80;
 
-pub struct Batch<'a> {
+/// One record, as far as it has not been read.
+pub struct Record<'a> {
+    pub kind: u8,
     left: &'a [u8],
 }
 
-impl<'a> Batch<'a> {
-    pub fn new(bytes: &'a [u8]) -> Batch<'a> {
-        Batch { left: bytes }
-    }
+fn number(bytes: &[u8]) -> u64 {
+    bytes.iter().rev().fold(0, |sum, &b| sum << 8 | u64::from(b))
+}
 
-    /// The kind of the next record, or none at the end of the batch.
-    pub fn kind(&mut self) -> Result<Option<u8>, String> {
-        if self.left.is_empty() {
-            return Ok(None);
-        }
-        self.byte().map(Some)
-    }
+/// The first record of a batch, and what follows it.
+fn split(batch: &[u8]) -> Option<(Record<'_>, &[u8])> {
+    let (&kind, rest) = batch.split_first()?;
+    let (length, rest) = rest.split_at_checked(4)?;
+    let (left, rest) = rest.split_at_checked(number(length) as usize)?;
+    Some((Record { kind, left }, rest))
+}
 
+/// Answers a batch: what `line` makes of each record. A record must have been
+/// read to its end.
+pub fn answer(
+    batch: &[u8],
+    output: &mut impl std::io::Write,
+    line: fn(&mut Record) -> Result<String, String>,
+) -> Result<(), String> {
+    let mut left = batch;
+    let mut count = 0;
+    while !left.is_empty() {
+        let (mut record, rest) = split(left).ok_or("the batch ends inside a record")?;
+        let line = line(&mut record).and_then(|line| record.end().map(|()| line));
+        let line = line.map_err(|fault| format!("record {count}: {fault}"))?;
+        writeln!(output, "{line}").map_err(|fault| fault.to_string())?;
+        left = rest;
+        count += 1;
+    }
+    Ok(())
+}
+
+impl<'a> Record<'a> {
     pub fn take(&mut self, count: usize) -> Result<&'a [u8], String> {
-        if count > self.left.len() {
-            return Err("the batch ends inside a record".to_string());
-        }
-        let (front, left) = self.left.split_at(count);
+        let fields = self.left.split_at_checked(count);
+        let (front, left) = fields.ok_or("its fields take more than its length")?;
         self.left = left;
         Ok(front)
+    }
+
+    fn end(&self) -> Result<(), String> {
+        match self.left.len() {
+            0 => Ok(()),
+            left => Err(format!("its fields leave {left} bytes of its length")),
+        }
+    }
+
+    /// All that is left, as one field.
+    pub fn rest(&mut self) -> Result<&'a [u8], String> {
+        self.take(self.left.len())
     }
 
     pub fn byte(&mut self) -> Result<u8, String> {
         Ok(self.take(1)?[0])
     }
 
-    /// An unsigned number of `width` bytes, low byte first.
+    /// An unsigned number of `width` bytes.
     pub fn little(&mut self, width: usize) -> Result<u64, String> {
-        let bytes = self.take(width)?;
-        Ok(bytes.iter().rev().fold(0, |sum, &b| sum << 8 | u64::from(b)))
+        self.take(width).map(number)
     }
 
     /// A length of `width` bytes that may be at most `most`.
@@ -62,6 +94,11 @@ impl<'a> Batch<'a> {
             weights.push(self.little(4)? as u32);
         }
         Ok(Network { nodes, lows, highs, weights })
+    }
+
+    /// For a byte that is the kind of no record which the sub-command answers.
+    pub fn unknown(&self) -> String {
+        format!("no kind of record here: byte {}", self.kind)
     }
 }
 

@@ -1,15 +1,7 @@
-//! Sub-command `codec`: the plan reader and writer, record by record.
-//!
-//! The batch is the one that ../compare/generate/codec_batch.rs describes. One
-//! line for each record:
-//!
-//!   P record, refused:   refused NUMBER at PLACE
-//!   P record, accepted:  nodes N links M LOW-HIGH:WEIGHT ... plan HEX short R
-//!   N record:            network C at P write W at Q count K room HEX
-//!
-//! A room of no bytes has an empty HEX, so its line ends in a space.
+//! Sub-command `codec`: the plan reader and writer, record by record. Records
+//! and answer lines: ../compare/FORMAT.md.
 
-use crate::batch::{hex, Batch, UNTOUCHED};
+use crate::batch::{self, hex, Record, UNTOUCHED};
 use crate::network::{shown, Network};
 use crate::plan;
 use std::fmt::Write;
@@ -50,21 +42,17 @@ fn memory_line(network: &Network, room: usize) -> String {
     )
 }
 
-pub fn run(input: &[u8], output: &mut impl std::io::Write) -> Result<(), String> {
-    let mut batch = Batch::new(input);
-    while let Some(kind) = batch.kind()? {
-        let line = match kind {
-            b'P' => {
-                let length = batch.little(2)? as usize;
-                plan_line(batch.take(length)?)
-            }
-            b'N' => {
-                let network = batch.network()?;
-                memory_line(&network, batch.length(2, MOST_ROOM)?)
-            }
-            other => return Err(format!("no kind of record here: byte {other}")),
-        };
-        writeln!(output, "{line}").map_err(|fault| fault.to_string())?;
+fn line(record: &mut Record) -> Result<String, String> {
+    match record.kind {
+        b'P' => Ok(plan_line(record.rest()?)),
+        b'N' => {
+            let network = record.network()?;
+            Ok(memory_line(&network, record.length(2, MOST_ROOM)?))
+        }
+        _ => Err(record.unknown()),
     }
-    Ok(())
+}
+
+pub fn run(input: &[u8], output: &mut impl std::io::Write) -> Result<(), String> {
+    batch::answer(input, output, line)
 }

@@ -1,27 +1,7 @@
 //! Sub-command `tables`: paths, key links, tables, steps and walks, record by
-//! record.
-//!
-//! The batch is the one that ../compare/generate/tables_batch.rs describes. One
-//! line for each record, where N and P are the refusal number and its place:
-//!
-//!   T  tables N at P HASH [ROUTING FORWARDING BACKWARDING]
-//!   K  keys N at P SET
-//!   B  best N at P sum S links SET entry E
-//!   R  row N HEX
-//!   S  step N at P delivered | nothing | dropped | next NODE INTERFACE | -
-//!   W  walk N at P ending E hops H trace HEX
-//!   A  all N at P HASH | -
-//!   F  figures N at P DELIVERED DROPPED HOPS LONGEST
-//!
-//! SET is a set of links as a decimal number, 2 to the link's number for each
-//! link. HASH is 64-bit FNV-1a in 16 hex digits: for T over the three whole
-//! lent tables one after another, also if refused; for A over all walks (see
-//! `all_line`). The tables in hex follow only if N is 0 and there are at most
-//! 6 nodes. A trace is shown whole, also if refused. Tables and traces of no
-//! bytes and refused rows have an empty HEX. Refused answers show 0 in every
-//! other figure, and `-` where the form says so.
+//! record. Records and answer lines: ../compare/FORMAT.md.
 
-use crate::batch::{hex, Batch, UNTOUCHED};
+use crate::batch::{self, hex, Record, UNTOUCHED};
 use crate::network::shown;
 use crate::paths::{by_tree, Best};
 use crate::tables::{self, Lent, Told};
@@ -50,18 +30,18 @@ impl Fnv {
     }
 }
 
-fn lent<'a>(batch: &mut Batch<'a>) -> Result<Lent<'a>, String> {
+fn lent<'a>(record: &mut Record<'a>) -> Result<Lent<'a>, String> {
     let mut table = || -> Result<&'a [u8], String> {
-        let length = batch.length(2, MOST_TABLE)?;
-        batch.take(length)
+        let length = record.length(2, MOST_TABLE)?;
+        record.take(length)
     };
     Ok(Lent { routing: table()?, forwarding: table()?, backwarding: table()? })
 }
 
-fn failure(batch: &mut Batch) -> Result<Failure, String> {
-    let kind = batch.byte()?;
+fn failure(record: &mut Record) -> Result<Failure, String> {
+    let kind = record.byte()?;
     // The number stands there in both cases.
-    let number = batch.little(8)?;
+    let number = record.little(8)?;
     match kind {
         0 => Ok(Failure::None),
         1 => Ok(Failure::Link(number)),
@@ -69,11 +49,11 @@ fn failure(batch: &mut Batch) -> Result<Failure, String> {
     }
 }
 
-fn tables_line(batch: &mut Batch) -> Result<String, String> {
-    let network = batch.network()?;
+fn tables_line(record: &mut Record) -> Result<String, String> {
+    let network = record.network()?;
     let mut rooms = [vec![], vec![], vec![]];
     for room in &mut rooms {
-        *room = vec![UNTOUCHED; batch.length(2, MOST_TABLE)?];
+        *room = vec![UNTOUCHED; record.length(2, MOST_TABLE)?];
     }
     let (number, place) = shown(&tables::fill(&network, &mut rooms));
     let mut hash = Fnv::new();
@@ -88,47 +68,47 @@ fn tables_line(batch: &mut Batch) -> Result<String, String> {
     Ok(line)
 }
 
-fn keys_line(batch: &mut Batch) -> Result<String, String> {
-    let network = batch.network()?;
-    let interface = batch.little(8)?;
-    let destination = batch.little(8)?;
+fn keys_line(record: &mut Record) -> Result<String, String> {
+    let network = record.network()?;
+    let interface = record.little(8)?;
+    let destination = record.little(8)?;
     let answer = tables::keys(&network, interface, destination);
     let (number, place) = shown(&answer);
     Ok(format!("keys {number} at {place} {}", answer.unwrap_or(0)))
 }
 
-fn best_line(batch: &mut Batch) -> Result<String, String> {
-    let network = batch.network()?;
-    let source = batch.little(8)?;
-    let destination = batch.little(8)?;
+fn best_line(record: &mut Record) -> Result<String, String> {
+    let network = record.network()?;
+    let source = record.little(8)?;
+    let destination = record.little(8)?;
     let answer = tables::told(&network, source, destination);
     let (number, place) = shown(&answer);
     let Told { sum, links, entry } = answer.unwrap_or(Told { sum: 0, links: 0, entry: 0 });
     Ok(format!("best {number} at {place} sum {sum} links {links} entry {entry}"))
 }
 
-fn row_line(batch: &mut Batch) -> Result<String, String> {
-    let length = batch.length(2, MOST_TABLE)?;
-    let table = batch.take(length)?;
-    let nodes = batch.little(8)?;
-    let interface = batch.little(8)?;
+fn row_line(record: &mut Record) -> Result<String, String> {
+    let length = record.length(2, MOST_TABLE)?;
+    let table = record.take(length)?;
+    let nodes = record.little(8)?;
+    let interface = record.little(8)?;
     let answer = tables::row(table, nodes, interface);
     // This look-up answers without a place.
     let (number, _) = shown(&answer);
     Ok(format!("row {number} {}", hex(answer.unwrap_or(&[]))))
 }
 
-fn step_line(batch: &mut Batch) -> Result<String, String> {
-    let network = batch.network()?;
-    let tables = lent(batch)?;
-    let kind = batch.byte()?;
-    let asked = match (kind, batch.little(8)?) {
+fn step_line(record: &mut Record) -> Result<String, String> {
+    let network = record.network()?;
+    let tables = lent(record)?;
+    let kind = record.byte()?;
+    let asked = match (kind, record.little(8)?) {
         (0, node) => Asked::Start(node),
         (1, interface) => Asked::Arrival(interface),
         (other, _) => return Err(format!("no kind of step: byte {other}")),
     };
-    let destination = batch.little(8)?;
-    let failure = failure(batch)?;
+    let destination = record.little(8)?;
+    let failure = failure(record)?;
     let answer = walk::step(&network, tables, asked, destination, failure);
     let (number, place) = shown(&answer);
     let step = match answer {
@@ -141,25 +121,22 @@ fn step_line(batch: &mut Batch) -> Result<String, String> {
     Ok(format!("step {number} at {place} {step}"))
 }
 
-fn walk_line(batch: &mut Batch) -> Result<String, String> {
-    let network = batch.network()?;
-    let tables = lent(batch)?;
-    let source = batch.little(8)?;
-    let destination = batch.little(8)?;
-    let failure = failure(batch)?;
-    let limit = batch.byte()?;
-    let mut trace = vec![UNTOUCHED; batch.length(2, MOST_TRACE)?];
+fn walk_line(record: &mut Record) -> Result<String, String> {
+    let network = record.network()?;
+    let tables = lent(record)?;
+    let source = record.little(8)?;
+    let destination = record.little(8)?;
+    let failure = failure(record)?;
+    let limit = record.byte()?;
+    let mut trace = vec![UNTOUCHED; record.length(2, MOST_TRACE)?];
     let answer = walk::walk(&network, tables, source, destination, failure, limit, &mut trace);
     let (number, place) = shown(&answer);
     let (ending, hops) = answer.map_or((0, 0), |walk| (walk.ending, walk.hops()));
     Ok(format!("walk {number} at {place} ending {ending} hops {hops} trace {}", hex(&trace)))
 }
 
-/// The walks go by failure (none, then each link), source and destination
-/// (equal ones too), with hop limit 255. Each adds to the hash its ending, its
-/// hop count and its hops + 1 nodes.
-fn all_line(batch: &mut Batch) -> Result<String, String> {
-    let answer = batch.network()?.graph();
+fn all_line(record: &mut Record) -> Result<String, String> {
+    let answer = record.network()?.graph();
     let (number, place) = shown(&answer);
     let Ok(graph) = answer else {
         return Ok(format!("all {number} at {place} -"));
@@ -180,31 +157,30 @@ fn all_line(batch: &mut Batch) -> Result<String, String> {
     Ok(format!("all {number} at {place} {}", hash.told()))
 }
 
-fn figures_line(batch: &mut Batch) -> Result<String, String> {
-    let network = batch.network()?;
-    let tables = lent(batch)?;
-    let failure = failure(batch)?;
+fn figures_line(record: &mut Record) -> Result<String, String> {
+    let network = record.network()?;
+    let tables = lent(record)?;
+    let failure = failure(record)?;
     let answer = walk::figures(&network, tables, failure);
     let (number, place) = shown(&answer);
     let Figures { delivered, dropped, hops, longest } = answer.unwrap_or_default();
     Ok(format!("figures {number} at {place} {delivered} {dropped} {hops} {longest}"))
 }
 
-pub fn run(input: &[u8], output: &mut impl std::io::Write) -> Result<(), String> {
-    let mut batch = Batch::new(input);
-    while let Some(kind) = batch.kind()? {
-        let line = match kind {
-            b'T' => tables_line(&mut batch)?,
-            b'K' => keys_line(&mut batch)?,
-            b'B' => best_line(&mut batch)?,
-            b'R' => row_line(&mut batch)?,
-            b'S' => step_line(&mut batch)?,
-            b'W' => walk_line(&mut batch)?,
-            b'A' => all_line(&mut batch)?,
-            b'F' => figures_line(&mut batch)?,
-            other => return Err(format!("no kind of record here: byte {other}")),
-        };
-        writeln!(output, "{line}").map_err(|fault| fault.to_string())?;
+fn line(record: &mut Record) -> Result<String, String> {
+    match record.kind {
+        b'T' => tables_line(record),
+        b'K' => keys_line(record),
+        b'B' => best_line(record),
+        b'R' => row_line(record),
+        b'S' => step_line(record),
+        b'W' => walk_line(record),
+        b'A' => all_line(record),
+        b'F' => figures_line(record),
+        _ => Err(record.unknown()),
     }
-    Ok(())
+}
+
+pub fn run(input: &[u8], output: &mut impl std::io::Write) -> Result<(), String> {
+    batch::answer(input, output, line)
 }

@@ -15,8 +15,7 @@
 //!         second report < plan                a stored plan's report
 //!         second selftest                     reads nothing
 //!
-//! What a batch looks like and the forms of the answer lines: codec.rs and
-//! records.rs.
+//! What a batch and its answers look like: ../compare/FORMAT.md.
 //! Exit status: 0, a refused plan's report included; 1 if the self-test found
 //! a fault; 2 if the arguments or the batch are not well formed.
 

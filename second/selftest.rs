@@ -1,17 +1,17 @@
 //! Sub-command `selftest`: this program held against itself and against what
 //! document 01 says of it, before it is held against the proved program.
 //!
-//! Three parts: the bench sheet and the report that document 01 prints; the
-//! two ways to best paths against each other on small networks full of equal
-//! paths; demand 3 on networks of every size. Nothing is read, and every run
-//! does the same. It prints how often each thing was checked, and up to 20
-//! faults.
+//! Four parts: the bench sheet and the report that document 01 prints; batches
+//! whose lengths are wrong, which must not pass; the two ways to best paths
+//! against each other on small networks full of equal paths; demand 3 on
+//! networks of every size. Nothing is read, and every run does the same. It
+//! prints how often each thing was checked, and up to 20 faults.
 
 use crate::network::{Graph, Network};
 use crate::paths::{by_tree, by_trial, every_chain, sum_of, Best, Method};
 use crate::tables::{self, Tables};
 use crate::walk::{self, Failure, Step, Walk};
-use crate::{plan, report};
+use crate::{plan, records, report};
 use std::collections::BTreeMap;
 
 const MOST_TOLD: usize = 20;
@@ -175,6 +175,27 @@ fn bench_sheet(tally: &mut Tally) {
 
     row("report of plan A", report::text(&PLAN_A) == REPORT_A);
     row("report of a refused plan", report::text(&[0]) == "refused 3 at 0\n");
+}
+
+// --------------------------------------------------------------- batches
+
+fn batches(tally: &mut Tally) {
+    // One node without links: the node count and three row lengths.
+    let fields = [1, 0, 0, 0, 0, 0, 0, 0, 0, 0, 0];
+    let record = |length: u8, fields: &[u8]| [&[b'A', length, 0, 0, 0], fields].concat();
+    let more = [&fields[..], &[0]].concat();
+    for (name, batch, good) in [
+        ("a record as long as its fields", record(11, &fields), true),
+        ("a longer one", record(12, &more), false),
+        ("a shorter one", record(10, &fields[..10]), false),
+        ("a length past the end", record(12, &fields), false),
+        ("two records, the first longer", [record(12, &more), record(11, &fields)].concat(), false),
+        ("no whole length", vec![b'A', 11, 0, 0], false),
+        ("no records", vec![], true),
+    ] {
+        let answered = records::run(&batch, &mut std::io::sink()).is_ok();
+        tally.check("batches by their lengths", answered == good, || name.to_string());
+    }
 }
 
 // ------------------------------------------------------- random networks
@@ -438,6 +459,7 @@ pub fn run(output: &mut impl std::io::Write) -> Result<bool, String> {
     };
     let mut chance = Chance(0x5EED);
     part(&mut bench_sheet)?;
+    part(&mut batches)?;
     part(&mut |tally| {
         for _ in 0..SMALL_NETWORKS {
             let nodes = 1 + chance.below(8);

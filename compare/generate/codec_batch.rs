@@ -5,42 +5,14 @@
 //! Of every six records five are plans and one is a network. Each of the two
 //! sorts first runs through its list of deliberate cases and is then filled up
 //! at random.
-//!
-//! Batch format: records one after another until the end. Numbers of several
-//! bytes stand low byte first.
-//!
-//!   A stored plan:
-//!     kind          1 byte, `P` (0x50)
-//!     length        2 bytes
-//!     plan          that many bytes
-//!
-//!   A network in memory, and a room for its plan:
-//!     kind          1 byte, `N` (0x4E)
-//!     node count    8 bytes
-//!     row lengths   1 byte each: low ends, high ends, weights; at most 80
-//!     low ends      1 byte each
-//!     high ends     1 byte each
-//!     weights       4 bytes each
-//!     room          2 bytes, the room's length, at most 400
-//!
-//! The reader of the batch fills the room with bytes 0xEE first.
 
 use crate::chance::Chance;
-use crate::networks::{Net, LONGEST_ROW, PLAN_A};
+use crate::networks::{Net, PLAN_A};
+use crate::record::{record, two, LONGEST_ROOM, LONGEST_ROW};
 use crate::stored::{draw, draw_any, draw_with, longest, plan_at_random, plan_list, Draft};
 use std::collections::BTreeMap;
 
-fn plan_record(plan: &[u8]) -> Vec<u8> {
-    let length = u16::try_from(plan.len()).expect("plans stay short");
-    let mut record = vec![b'P'];
-    record.extend(length.to_le_bytes());
-    record.extend(plan);
-    record
-}
-
 // ------------------------------------------------------------- networks
-
-const LONGEST_ROOM: usize = 400;
 
 /// A network, and the length of a room for its plan.
 #[derive(Clone)]
@@ -68,8 +40,7 @@ impl Memory {
 
     fn record(&self) -> Vec<u8> {
         assert!(self.room <= LONGEST_ROOM);
-        let room = self.room as u16;
-        [&b"N"[..], &self.net.bytes(), &room.to_le_bytes()].concat()
+        record('N', &[&self.net.bytes(), &two(self.room)])
     }
 }
 
@@ -290,7 +261,7 @@ pub fn make(chance: &mut Chance, count: usize) -> Vec<u8> {
         } else {
             sorts[0] += 1;
             let (kind, plan) = next_plan.next().unwrap_or_else(|| plan_at_random(chance));
-            (kind, plan_record(&plan))
+            (kind, record('P', &[&plan]))
         };
         *kinds.entry(kind).or_default() += 1;
         batch.extend(record);

@@ -11,14 +11,15 @@
 //!         generate reports SEED COUNT > batch    reports_batch.rs
 //!         generate example NAME > plan           examples.rs
 //!
-//! The files named tell what COUNT counts and what a batch looks like. The
-//! same seed and count give the same batch. Standard error tells what is in
+//! The files named tell what COUNT counts, and ../FORMAT.md what a batch looks
+//! like. The same seed and count give the same batch. Standard error tells what is in
 //! it, and whether COUNT was too small for the deliberate cases.
 
 mod chance;
 mod codec_batch;
 mod examples;
 mod networks;
+mod record;
 mod reports_batch;
 mod shapes;
 mod stored;

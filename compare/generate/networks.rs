@@ -2,9 +2,9 @@
 //! shapes, and shapes at random.
 
 use crate::chance::Chance;
+use crate::record::LONGEST_ROW;
 use crate::shapes::Shape;
 
-pub const LONGEST_ROW: usize = 80;
 pub const MOST_LINKS: usize = 64;
 
 /// Low end, high end, weight.

@@ -4,9 +4,6 @@
 //!
 //! Deliberate plans come first. COUNT plans at random follow: two of three are
 //! small and good, the third may be anything.
-//!
-//! Batch format: a line for each plan, its bytes in hex. The line of a plan of
-//! no bytes is empty.
 
 use crate::chance::Chance;
 use crate::networks::{net_list, net_of_size, Net, Weights, MOST_LINKS};

@@ -5,39 +5,12 @@
 //! COUNT is the number of good networks; each brings records of every kind. A
 //! list of deliberate networks comes first, the rest is drawn at random.
 //! Networks with a fault come on top of them.
-//!
-//! Batch format: records one after another until the end. Numbers of several
-//! bytes stand low byte first. Each record begins with a byte for its kind.
-//!
-//!   T   network, then three lengths of lent tables: 2 bytes each
-//!   K   network, interface (8 bytes), destination (8 bytes)
-//!   B   network, source (8 bytes), destination (8 bytes)
-//!   R   table, row length n (8 bytes), interface (8 bytes)
-//!   S   network, three tables, 1 byte (0 start node, 1 arrival interface) and
-//!       its number (8 bytes), destination (8 bytes), failure
-//!   W   network, three tables, source (8 bytes), destination (8 bytes),
-//!       failure, hop limit (1 byte), length of the trace (2 bytes)
-//!   A   network
-//!   F   network, three tables, failure
-//!
-//!   network:  node count (8 bytes), the lengths of the rows of low ends, high
-//!             ends and weights (1 byte each, at most 80), then those rows
-//!             (1, 1 and 4 bytes for each entry)
-//!   table:    length (2 bytes, at most 5000), then so many bytes; three
-//!             tables are routing, forwarding, backwarding
-//!   failure:  1 byte (0 none, 1 one link), the link's number (8 bytes, there
-//!             in both cases)
-//!
-//! The lent tables of a T are at most 5000 bytes long each, a trace at most
-//! 600. The reader of the batch fills them with bytes 0xEE first.
 
 use crate::chance::Chance;
-use crate::networks::{net_at_random, net_list, Net, NetCase, Weights, LONGEST_ROW, MOST_LINKS};
+use crate::networks::{net_at_random, net_list, Net, NetCase, Weights, MOST_LINKS};
+use crate::record::{eight, record, two, LONGEST_ROW, LONGEST_TABLE, LONGEST_TRACE};
 use crate::shapes::Shape;
 use std::collections::BTreeMap;
-
-const LONGEST_TABLE: usize = 5000;
-const LONGEST_TRACE: usize = 600;
 
 /// Networks that are refused: each fault, at the first, a middle and the last
 /// link, and several at once.
@@ -193,19 +166,10 @@ struct Made {
 
 impl Made {
     fn push(&mut self, kind: char, case: &str, parts: &[&[u8]]) {
-        self.batch.push(kind as u8);
-        self.batch.extend(parts.concat());
+        self.batch.extend(record(kind, parts));
         *self.cases.entry(format!("{kind}: {case}")).or_default() += 1;
         *self.kinds.entry(kind).or_default() += 1;
     }
-}
-
-fn two(number: usize) -> [u8; 2] {
-    (number as u16).to_le_bytes()
-}
-
-fn eight(number: u64) -> [u8; 8] {
-    number.to_le_bytes()
 }
 
 fn table_bytes(tables: &Tables) -> Vec<u8> {

@@ -1,20 +1,13 @@
-// The parts of records that stand beside a network. What the input lacks is 0.
+// The fields of records that stand beside a network (compare/FORMAT.md). What the input lacks is 0.
 use net::Failure;
 use net::Interface;
 use net::Link;
 use net::Node;
 use text::front;
 use text::front_room;
-use text::number_of;
 use text::read;
+use text::read_number;
 use walk::Asked;
-
-// A number of so many bytes, at most 8, low byte first.
-pub fn read_number(width: usize) -> usize {
-    let mut bytes = [0u8; 8];
-    read(front_room(&mut bytes, width));
-    number_of(&bytes) as usize
-}
 
 pub fn read_byte() -> u8 {
     let mut bytes = [0u8; 1];

@@ -1,20 +1,6 @@
 // A test program: runs best paths, key links, tables, row look-up, steps, walks and failure lines on a batch of records from standard
-// input, a line of answers for each, so that one run compares thousands of them with the second program. Records stand one after
-// another until the input ends; numbers of several bytes stand low byte first. A record begins with a byte for its kind:
-//   T  network, three lengths of lent tables (2 bytes each, at most 5,000).  Answer: `tables NUMBER at PLACE HASH`, and in hex the three
-//      tables of an accepted network of at most 6 nodes. The tables start out as bytes EE; HASH is that of all three, also if refused.
-//   K  network, interface, destination (8 bytes each).                       Answer: `keys NUMBER at PLACE SET`
-//   B  network, source, destination (8 bytes each).            Answer: `best NUMBER at PLACE sum SUM links SET entry ENTRY`
-//   R  table, row length, interface (8 bytes each).                          Answer: `row NUMBER HEX`
-//   S  network, three tables, a byte (0 start node, 1 arrival interface) and its number (8 bytes), destination (8 bytes), failure.
-//      Answer: `step NUMBER at PLACE`, then `-` if refused, `delivered`, `nothing`, `dropped` or `next NODE INTERFACE`.
-//   W  network, three tables, source, destination (8 bytes each), failure, hop limit (a byte), length of the trace (2 bytes, at most 600).
-//      Answer: `walk NUMBER at PLACE ending ENDING hops HOPS trace HEX`; the trace starts out as bytes EE.
-//   A  network.  Answer: `all NUMBER at PLACE HASH`, or `-` for HASH if refused: of every walk over its tables (see `walks`).
-//   F  network, three tables, failure.  Answer: `figures NUMBER at PLACE DELIVERED DROPPED HOPS LONGEST`
-// A network is what `text::read_network` reads. A table is its length (2 bytes, at most 5,000) and its bytes; three tables are routing,
-// forwarding, backwarding. A failure is a byte (0 none, 1 one link) and the link's number (8 bytes). SET is a set of links as a decimal
-// number. Anything else ends the run. A batch is taken to be whole: what the input lacks is 0.
+// input, a line of answers for each, so that one run compares thousands of them with the second program. What records T, K, B, R, S, W, A
+// and F and their answers look like: compare/FORMAT.md. Anything else ends the run. A batch is taken to be whole: what the input lacks is 0.
 mod batch;
 mod hash;
 mod walks;
@@ -23,7 +9,6 @@ use batch::lent;
 use batch::read_asked;
 use batch::read_byte;
 use batch::read_failure;
-use batch::read_number;
 use batch::read_table;
 use hash::hash_bytes;
 use hash::print_hash;
@@ -33,6 +18,7 @@ use net::Node;
 use net::Verdict;
 use net::limit;
 use report::Figures;
+use text::Head;
 use text::Rows;
 use text::decimal;
 use text::front;
@@ -40,8 +26,9 @@ use text::front_room;
 use text::front_weights;
 use text::hex;
 use text::number_and_place;
-use text::read;
+use text::read_head;
 use text::read_network;
+use text::read_number;
 use text::text;
 use walk::Asked;
 use walk::Stepped;
@@ -412,11 +399,11 @@ fn answer(kind: u8) -> bool {
 }
 
 fn record() -> bool {
-    let mut kind = [0u8; 1];
-    if !read(&mut kind) {
+    let head = read_head();
+    let Head::Record(kind, _) = head else {
         return false;
-    }
-    answer(kind[0])
+    };
+    answer(kind)
 }
 
 // At most a million records, so that the run ends on any input.

@@ -1,5 +1,4 @@
-// Every walk over a network's own tables, as one hash: by failure (none, then each link), source and destination (equal ones too), with
-// hop limit 255. Each walk adds its ending, its hop count and its hops + 1 nodes.
+// Every walk over a network's own tables, as one hash: the answer to a record A (compare/FORMAT.md).
 use crate::hash;
 use crate::hash::hash_byte;
 use crate::hash::hash_bytes;

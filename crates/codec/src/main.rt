@@ -1,21 +1,18 @@
-// A test program: runs the reader, the check and the writer on a batch of records from standard input, a line of answers for each,
-// so that one run compares thousands of them with the second program. Records stand one after another until the input ends:
-//   P  a stored plan: length (2 bytes, low byte first), then that many bytes, at most 1,024.
-//      Answer: `refused NUMBER at PLACE`, or `nodes N links M`, for each link ` LOW-HIGH:WEIGHT`, then ` plan HEX`, the bytes that the
-//      writer makes of the network, and ` short NUMBER`, its refusal of a room one byte too short.
-//   N  a network in memory, as `text::read_network` reads it, then the room's length (2 bytes, at most 400).
-//      Answer: `network NUMBER at PLACE write NUMBER at PLACE count COUNT room HEX`; the room starts out as bytes EE.
+// A test program: runs the reader, the check and the writer on a batch of records from standard input, a line of answers for each, so
+// that one run compares thousands of them with the second program. What records P and N and their answers look like: compare/FORMAT.md.
 // Anything else ends the run.
 use net::end_at;
+use text::Head;
 use text::decimal;
 use text::front;
 use text::front_room;
 use text::front_weights;
 use text::hex;
 use text::number_and_place;
-use text::number_of;
 use text::read;
+use text::read_head;
 use text::read_network;
+use text::read_number;
 use text::text;
 
 fn print_weight(weight: u32) {
@@ -79,12 +76,7 @@ fn print_plan(s: &[u8]) {
     );
 }
 
-fn plan_record() -> bool {
-    let mut head = [0u8; 2];
-    if !read(&mut head) {
-        return false;
-    }
-    let length = number_of(&head) as usize;
+fn plan_record(length: usize) -> bool {
     let mut bytes = [0u8; 1024];
     if bytes.len() < length {
         return false;
@@ -113,11 +105,7 @@ fn print_checks(n: usize, low: &[u8], high: &[u8], weight: &[u32], room: &mut [u
 
 fn network_record() -> bool {
     let rows = read_network();
-    let mut tail = [0u8; 2];
-    if !read(&mut tail) {
-        return false;
-    }
-    let length = number_of(&tail) as usize;
+    let length = read_number(2);
     let mut room = [238u8; 400];
     if room.len() < length {
         return false;
@@ -136,14 +124,14 @@ fn network_record() -> bool {
 }
 
 fn record() -> bool {
-    let mut kind = [0u8; 1];
-    if !read(&mut kind) {
+    let head = read_head();
+    let Head::Record(kind, length) = head else {
         return false;
+    };
+    if kind == b'P' {
+        return plan_record(length);
     }
-    if kind[0] == b'P' {
-        return plan_record();
-    }
-    if kind[0] == b'N' {
+    if kind == b'N' {
         return network_record();
     }
     false

@@ -60,6 +60,27 @@ pub fn read(bytes: &mut [u8]) -> bool {
     io::read_full(STDIN_FILENO, bytes) == bytes.len()
 }
 
+// Reads a number of so many bytes, at most 8, low byte first. What the input lacks is 0.
+pub fn read_number(width: usize) -> usize {
+    let mut bytes = [0u8; 8];
+    read(front_room(&mut bytes, width));
+    number_of(&bytes) as usize
+}
+
+// How a record of a batch begins (compare/FORMAT.md): its kind and the length of its fields; or there is none left.
+pub enum Head {
+    Record(u8, usize),
+    End,
+}
+
+pub fn read_head() -> Head {
+    let mut kind = [0u8; 1];
+    if !read(&mut kind) {
+        return Head::End;
+    }
+    Head::Record(kind[0], read_number(4))
+}
+
 // Fills the first n weights, 4 bytes each, low byte first: false where the input ends before, or there are fewer.
 pub fn read_weights(weights: &mut [u32], n: usize) -> bool {
     let mut i = 0;
@@ -92,11 +113,9 @@ pub struct Rows {
     pub weight: [u32; 256],
 }
 
-// Reads a network: node count (8 bytes, low byte first), three row lengths (a byte each), the low ends and the high ends (a byte each),
-// the weights (4 bytes each, low byte first). What the input lacks is 0.
+// Reads a network (compare/FORMAT.md). What the input lacks is 0.
 pub fn read_network() -> Rows {
-    let mut count = [0u8; 8];
-    read(&mut count);
+    let nodes = read_number(8);
     let mut lengths = [0u8; 3];
     read(&mut lengths);
     let lows = wide(lengths[0]);
@@ -109,7 +128,7 @@ pub fn read_network() -> Rows {
     let mut weight = [0u32; 256];
     read_weights(&mut weight, weights);
     Rows {
-        nodes: number_of(&count) as usize,
+        nodes: nodes,
         lows: lows,
         highs: highs,
         weights: weights,
