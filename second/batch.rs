@@ -3,14 +3,24 @@
 //! reader knows (codec.rs, records.rs). A batch that does not hold what is due,
 //! or more than that, is an error of the comparison itself, never an answer.
 
-use crate::network::Network;
+use crate::network::{Network, MOST_LINKS, MOST_NODES};
 
-const MOST_ROW: usize = 80;
+/// What a part may have beyond all that can be asked of it.
+const SPARE: usize = 128;
+const MOST_ROW: usize = MOST_LINKS + 16;
+pub const MOST_TABLE: usize = 2 * MOST_LINKS * MOST_NODES as usize + SPARE;
+pub const MOST_TRACE: usize = 256 + SPARE;
+/// Of a stored plan, and of a room for one.
+pub const MOST_PLAN: usize = 3 * (2 + 3 * MOST_LINKS) + SPARE;
 
 /// One record, as far as it has not been read.
 pub struct Record<'a> {
     pub kind: u8,
     left: &'a [u8],
+}
+
+fn within(length: usize, most: usize) -> Result<usize, String> {
+    if length > most { Err(format!("a length of {length}, over {most}")) } else { Ok(length) }
 }
 
 fn number(bytes: &[u8]) -> u64 {
@@ -60,9 +70,10 @@ impl<'a> Record<'a> {
         }
     }
 
-    /// All that is left, as one field.
-    pub fn rest(&mut self) -> Result<&'a [u8], String> {
-        self.take(self.left.len())
+    /// All that is left, as one field of at most `most` bytes.
+    pub fn rest(&mut self, most: usize) -> Result<&'a [u8], String> {
+        let length = within(self.left.len(), most)?;
+        self.take(length)
     }
 
     pub fn byte(&mut self) -> Result<u8, String> {
@@ -76,10 +87,7 @@ impl<'a> Record<'a> {
 
     /// A length of `width` bytes that may be at most `most`.
     pub fn length(&mut self, width: usize, most: usize) -> Result<usize, String> {
-        match self.little(width)? as usize {
-            length if length > most => Err(format!("a length of {length}, over {most}")),
-            length => Ok(length),
-        }
+        within(self.little(width)? as usize, most)
     }
 
     pub fn network(&mut self) -> Result<Network, String> {

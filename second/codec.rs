@@ -1,12 +1,10 @@
 //! Sub-command `codec`: the plan reader and writer, record by record. Records
 //! and answer lines: ../compare/FORMAT.md.
 
-use crate::batch::{self, hex, Record, UNTOUCHED};
+use crate::batch::{self, hex, Record, MOST_PLAN, UNTOUCHED};
 use crate::network::{shown, Network};
 use crate::plan;
 use std::fmt::Write;
-
-const MOST_ROOM: usize = 400;
 
 fn plan_line(bytes: &[u8]) -> String {
     let network = match plan::read(bytes) {
@@ -44,10 +42,10 @@ fn memory_line(network: &Network, room: usize) -> String {
 
 fn line(record: &mut Record) -> Result<String, String> {
     match record.kind {
-        b'P' => Ok(plan_line(record.rest()?)),
+        b'P' => Ok(plan_line(record.rest(MOST_PLAN)?)),
         b'N' => {
             let network = record.network()?;
-            Ok(memory_line(&network, record.length(2, MOST_ROOM)?))
+            Ok(memory_line(&network, record.length(2, MOST_PLAN)?))
         }
         _ => Err(record.unknown()),
     }

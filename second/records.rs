@@ -1,14 +1,12 @@
 //! Sub-command `tables`: paths, key links, tables, steps and walks, record by
 //! record. Records and answer lines: ../compare/FORMAT.md.
 
-use crate::batch::{self, hex, Record, UNTOUCHED};
+use crate::batch::{self, hex, Record, MOST_TABLE, MOST_TRACE, UNTOUCHED};
 use crate::network::shown;
 use crate::paths::{by_tree, Best};
 use crate::tables::{self, Lent, Told};
 use crate::walk::{self, Asked, Failure, Figures, Step};
 
-const MOST_TABLE: usize = 5000;
-const MOST_TRACE: usize = 600;
 /// Larger networks' tables are told by their hash alone.
 const MOST_NODES_IN_FULL: u64 = 6;
 

@@ -8,7 +8,7 @@
 
 use crate::chance::Chance;
 use crate::networks::{Net, PLAN_A};
-use crate::record::{record, two, LONGEST_ROOM, LONGEST_ROW};
+use crate::record::{record, two, LONGEST_PLAN, LONGEST_ROW};
 use crate::stored::{draw, draw_any, draw_with, longest, plan_at_random, plan_list, Draft};
 use std::collections::BTreeMap;
 
@@ -26,7 +26,7 @@ impl Memory {
     /// a record can ask for it.
     fn of(draft: &Draft) -> Memory {
         let net = Net::listed(draft.nodes, &draft.links);
-        Memory { net, room: draft.plan().len().min(LONGEST_ROOM) }
+        Memory { net, room: draft.plan().len().min(LONGEST_PLAN) }
     }
 
     fn with_room(&self, room: usize) -> Memory {
@@ -39,7 +39,7 @@ impl Memory {
     }
 
     fn record(&self) -> Vec<u8> {
-        assert!(self.room <= LONGEST_ROOM);
+        assert!(self.room <= LONGEST_PLAN);
         record('N', &[&self.net.bytes(), &two(self.room)])
     }
 }
@@ -101,8 +101,8 @@ fn memory_list(chance: &mut Chance) -> Vec<MemoryCase> {
     }
     for memory in &valid {
         let exact = memory.room;
-        for room in [exact, exact + 1, exact + 40, LONGEST_ROOM] {
-            list.push(("network: valid, room enough", memory.with_room(room.min(LONGEST_ROOM))));
+        for room in [exact, exact + 1, exact + 40, LONGEST_PLAN] {
+            list.push(("network: valid, room enough", memory.with_room(room.min(LONGEST_PLAN))));
         }
         list.push(("network: valid, room one short", memory.with_room(exact - 1)));
         list.push(("network: valid, room short", memory.with_room(exact / 2)));
@@ -200,8 +200,8 @@ fn room_at_random(chance: &mut Chance, exact: usize) -> usize {
     match chance.below(4) {
         0 => exact,
         1 => exact.saturating_sub(1 + chance.below(3)),
-        2 => (exact + chance.below(9)).min(LONGEST_ROOM),
-        _ => chance.below(LONGEST_ROOM + 1),
+        2 => (exact + chance.below(9)).min(LONGEST_PLAN),
+        _ => chance.below(LONGEST_PLAN + 1),
     }
 }
 
@@ -261,6 +261,7 @@ pub fn make(chance: &mut Chance, count: usize) -> Vec<u8> {
         } else {
             sorts[0] += 1;
             let (kind, plan) = next_plan.next().unwrap_or_else(|| plan_at_random(chance));
+            assert!(plan.len() <= LONGEST_PLAN);
             (kind, record('P', &[&plan]))
         };
         *kinds.entry(kind).or_default() += 1;

@@ -5,6 +5,7 @@ use crate::chance::Chance;
 use crate::record::LONGEST_ROW;
 use crate::shapes::Shape;
 
+pub const MOST_NODES: usize = 32;
 pub const MOST_LINKS: usize = 64;
 
 /// Low end, high end, weight.
@@ -35,7 +36,7 @@ pub struct Net {
 
 impl Net {
     pub fn of(chance: &mut Chance, shape: &Shape, weights: Weights) -> Net {
-        assert!((1..=32).contains(&shape.nodes) && shape.pairs.len() <= LONGEST_ROW);
+        assert!((1..=MOST_NODES).contains(&shape.nodes) && shape.pairs.len() <= LONGEST_ROW);
         let mut weigh = || match weights {
             Weights::All(weight) => weight,
             Weights::UpTo(most) => chance.between(1, most),

@@ -1,10 +1,18 @@
 //! What records are put together from (../FORMAT.md), and how long their parts
 //! may be.
 
-pub const LONGEST_ROW: usize = 80;
-pub const LONGEST_TABLE: usize = 5000;
-pub const LONGEST_TRACE: usize = 600;
-pub const LONGEST_ROOM: usize = 400;
+use crate::networks::{MOST_LINKS, MOST_NODES};
+
+/// What a part may have beyond all that can be asked of it.
+const SPARE: usize = 128;
+
+pub const LONGEST_ROW: usize = MOST_LINKS + 16;
+pub const LONGEST_TABLE: usize = 2 * MOST_LINKS * MOST_NODES + SPARE;
+pub const LONGEST_TRACE: usize = 256 + SPARE;
+
+/// Of a stored plan, and of a room for one: two counts, and three numbers for
+/// each link, of three groups each.
+pub const LONGEST_PLAN: usize = 3 * (2 + 3 * MOST_LINKS) + SPARE;
 
 /// A whole record: kind, length, fields.
 pub fn record(kind: char, fields: &[&[u8]]) -> Vec<u8> {

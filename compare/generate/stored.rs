@@ -3,6 +3,7 @@
 
 use crate::chance::Chance;
 use crate::networks::{Link, Net, MOST_LINKS, PLAN_A};
+use crate::record::LONGEST_PLAN;
 
 const LARGEST_NUMBER: usize = 0x1F_FFFF;
 
@@ -236,7 +237,7 @@ pub fn plan_list(chance: &mut Chance) -> Vec<PlanCase> {
                 list.push(("plan: lengthened", lengthened(plan.clone(), length, filler)));
             }
         }
-        for length in [323, 324, 325, 400, 511, 512, 599, 600] {
+        for length in [323, 324, 325, 400, 511, 512, LONGEST_PLAN - 1, LONGEST_PLAN] {
             let filler = chance.byte();
             list.push(("plan: lengthened, over 322 bytes", lengthened(plan.clone(), length, filler)));
         }
@@ -358,7 +359,7 @@ pub fn plan_at_random(chance: &mut Chance) -> PlanCase {
         }
         3 => {
             let mut plan = draw_any(chance).plan();
-            let more = if chance.one_in(3) { chance.below(600 - plan.len()) } else { chance.below(6) };
+            let more = if chance.one_in(3) { chance.below(LONGEST_PLAN - plan.len()) } else { chance.below(6) };
             for _ in 0..=more {
                 plan.push(chance.byte());
             }

@@ -5,6 +5,8 @@ mod batch;
 mod hash;
 mod walks;
 
+use batch::TABLE;
+use batch::TRACE;
 use batch::lent;
 use batch::read_asked;
 use batch::read_byte;
@@ -19,7 +21,9 @@ use net::Verdict;
 use net::limit;
 use report::Figures;
 use text::Head;
+use text::RECORDS;
 use text::Rows;
+use text::UNTOUCHED;
 use text::decimal;
 use text::front;
 use text::front_room;
@@ -35,12 +39,14 @@ use walk::Stepped;
 use walk::Walked;
 use walks::all_walks;
 
-// Larger networks' tables are told by their hash alone.
+// The tables of networks of at most so many nodes are told in full, others by their hash alone.
+const IN_FULL: usize = 6;
+
 fn in_full(number: u8, n: usize) -> bool {
     if number != 0 {
         return false;
     }
-    n <= 6
+    n <= IN_FULL
 }
 
 fn build(rows: Rows, routing: &mut [u8], forwarding: &mut [u8], backwarding: &mut [u8]) -> Verdict {
@@ -84,9 +90,9 @@ fn tables_line() {
     let routings = read_number(2);
     let forwardings = read_number(2);
     let backwardings = read_number(2);
-    let mut routing = [238u8; 5000];
-    let mut forwarding = [238u8; 5000];
-    let mut backwarding = [238u8; 5000];
+    let mut routing = [UNTOUCHED; TABLE];
+    let mut forwarding = [UNTOUCHED; TABLE];
+    let mut backwarding = [UNTOUCHED; TABLE];
     let verdict = build(
         rows,
         front_room(&mut routing, routings),
@@ -281,7 +287,7 @@ fn walk_line() {
     let failure = read_failure();
     let limit = read_byte();
     let length = read_number(2);
-    let mut trace = [238u8; 600];
+    let mut trace = [UNTOUCHED; TRACE];
     let answer = walk_of(
         rows,
         lent(&routing_bytes, routing.length),
@@ -406,9 +412,8 @@ fn record() -> bool {
     answer(kind)
 }
 
-// At most a million records, so that the run ends on any input.
 fn main() {
-    let mut left: usize = 1000000;
+    let mut left = RECORDS;
     while 0 < left {
         if !record() {
             return;

@@ -1,4 +1,6 @@
 // Every walk over a network's own tables, as one hash: the answer to a record A (compare/FORMAT.md).
+use crate::batch::HOPS;
+use crate::batch::VISITED;
 use crate::hash;
 use crate::hash::hash_byte;
 use crate::hash::hash_bytes;
@@ -21,7 +23,7 @@ fn one_walk(
     s: usize,
     d: usize,
 ) -> u64 {
-    let mut trace = [0u8; 256];
+    let mut trace = [0u8; VISITED];
     let walked = walk::walk(
         n,
         low,
@@ -33,7 +35,7 @@ fn one_walk(
         Node(s),
         Node(d),
         failure,
-        255,
+        HOPS,
         &mut trace,
     );
     let ended = hash_byte(sum, walked.ending);

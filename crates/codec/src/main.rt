@@ -2,7 +2,11 @@
 // that one run compares thousands of them with the second program. What records P and N and their answers look like: compare/FORMAT.md.
 // Anything else ends the run.
 use net::end_at;
+use net::limit;
 use text::Head;
+use text::RECORDS;
+use text::SPARE;
+use text::UNTOUCHED;
 use text::decimal;
 use text::front;
 use text::front_room;
@@ -14,6 +18,9 @@ use text::read_head;
 use text::read_network;
 use text::read_number;
 use text::text;
+
+// The longest stored plan of a record, and the longest room for one: 2 + 3 * LINKS numbers of three groups each, and what is to spare.
+const PLAN: usize = 3 * (2 + 3 * limit::LINKS) + SPARE;
 
 fn print_weight(weight: u32) {
     decimal(weight as usize);
@@ -33,7 +40,7 @@ fn print_links(low: &[u8], high: &[u8], weight: &[u32]) {
 }
 
 fn print_written(n: usize, low: &[u8], high: &[u8], weight: &[u32]) {
-    let mut room = [0u8; 400];
+    let mut room = [0u8; PLAN];
     let written = plan::write_plan(n, low, high, weight, &mut room);
     let count = written.count;
     if count == 0 {
@@ -41,7 +48,7 @@ fn print_written(n: usize, low: &[u8], high: &[u8], weight: &[u32]) {
     }
     text(b" plan ");
     hex(front(&room, count));
-    let mut small = [0u8; 400];
+    let mut small = [0u8; PLAN];
     let refused = plan::write_plan(n, low, high, weight, front_room(&mut small, count - 1));
     text(b" short ");
     decimal(refused.number as usize);
@@ -77,7 +84,7 @@ fn print_plan(s: &[u8]) {
 }
 
 fn plan_record(length: usize) -> bool {
-    let mut bytes = [0u8; 1024];
+    let mut bytes = [0u8; PLAN];
     if bytes.len() < length {
         return false;
     }
@@ -106,7 +113,7 @@ fn print_checks(n: usize, low: &[u8], high: &[u8], weight: &[u32], room: &mut [u
 fn network_record() -> bool {
     let rows = read_network();
     let length = read_number(2);
-    let mut room = [238u8; 400];
+    let mut room = [UNTOUCHED; PLAN];
     if room.len() < length {
         return false;
     }
@@ -137,9 +144,8 @@ fn record() -> bool {
     false
 }
 
-// At most a million records, so that the run ends on any input.
 fn main() {
-    let mut left: usize = 1000000;
+    let mut left = RECORDS;
     while 0 < left {
         if !record() {
             return;

@@ -1,5 +1,4 @@
-// The report program: a stored plan on standard input, the report on standard output. It keeps the first 400 bytes of its input, which
-// is more than the 323 from which the reader gives the same answer as from all of it.
+// The report program: a stored plan on standard input, the report on standard output.
 use libc::STDIN_FILENO;
 use net::end_at;
 use net::limit;
@@ -10,6 +9,10 @@ use text::front;
 use text::front_weights;
 use text::number_and_place;
 use text::text;
+
+// The bytes of the input that are kept: as many as 2 + 3 * LINKS numbers of three groups each, and one more, which shows that bytes are
+// left. No plan is longer, and from its first bytes an input gets the reader's answer to all of it (`reads-first` in `plan`).
+const KEPT: usize = 3 * (2 + 3 * limit::LINKS) + 1;
 
 fn print_refusal(number: u8, place: usize) {
     text(b"refused ");
@@ -85,7 +88,7 @@ fn print_report(n: usize, low: &[u8], high: &[u8], weight: &[u32]) {
 }
 
 fn main() {
-    let mut bytes = [0u8; 400];
+    let mut bytes = [0u8; KEPT];
     let count = io::read_full(STDIN_FILENO, &mut bytes);
     let reading = plan::read_plan(front(&bytes, count));
     if reading.number != 0 {

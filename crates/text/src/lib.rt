@@ -5,6 +5,18 @@ ghost use Rattle.text.specs.Bytes.{shiftedBy, numberOf};
 use libc::STDIN_FILENO;
 use libc::STDOUT_FILENO;
 
+// Of a batch (compare/FORMAT.md): at most so many records are answered, so that a run ends on any input.
+pub const RECORDS: usize = 1000000;
+
+// What a lent room, table or trace holds before it is lent.
+pub const UNTOUCHED: u8 = 238;
+
+// Bytes that it may have beyond all that can be asked of it.
+pub const SPARE: usize = 128;
+
+// The longest row of a network: its length is one byte.
+pub const ROW: usize = 255;
+
 // Writes the bytes to standard output.
 pub fn text(bytes: &[u8]) {
     io::write_all(STDOUT_FILENO, bytes);
@@ -102,15 +114,15 @@ fn low_half(n: u64) -> u32 {
     (n % 4294967296) as u32
 }
 
-// A network in memory as a batch has it, its rows of any length up to 255.
+// A network in memory as a batch has it, its rows of any length.
 pub struct Rows {
     pub nodes: usize,
     pub lows: usize,
     pub highs: usize,
     pub weights: usize,
-    pub low: [u8; 256],
-    pub high: [u8; 256],
-    pub weight: [u32; 256],
+    pub low: [u8; ROW],
+    pub high: [u8; ROW],
+    pub weight: [u32; ROW],
 }
 
 // Reads a network (compare/FORMAT.md). What the input lacks is 0.
@@ -121,11 +133,11 @@ pub fn read_network() -> Rows {
     let lows = wide(lengths[0]);
     let highs = wide(lengths[1]);
     let weights = wide(lengths[2]);
-    let mut low = [0u8; 256];
+    let mut low = [0u8; ROW];
     read(front_room(&mut low, lows));
-    let mut high = [0u8; 256];
+    let mut high = [0u8; ROW];
     read(front_room(&mut high, highs));
-    let mut weight = [0u32; 256];
+    let mut weight = [0u32; ROW];
     read_weights(&mut weight, weights);
     Rows {
         nodes: nodes,
