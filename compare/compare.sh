@@ -32,7 +32,7 @@ records() {
 
 # compares whole reports, on a batch and on the example plans
 reports() {
-    "$out/generate" reports 1 600 > "$out/reports.batch" &&
+    "$out/generate" reports 1 1300 > "$out/reports.batch" &&
         "$out/compare_reports" "sh run.sh nightplan" "$out/second report" "$out/reports.batch" plans/*.plan
 }
 

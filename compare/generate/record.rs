@@ -10,9 +10,11 @@ pub const LONGEST_ROW: usize = MOST_LINKS + 16;
 pub const LONGEST_TABLE: usize = 2 * MOST_LINKS * MOST_NODES + SPARE;
 pub const LONGEST_TRACE: usize = 256 + SPARE;
 
-/// Of a stored plan, and of a room for one: two counts, and three numbers for
-/// each link, of three groups each.
-pub const LONGEST_PLAN: usize = 3 * (2 + 3 * MOST_LINKS) + SPARE;
+/// Two counts, and three numbers for each link, of three groups each: no good
+/// plan is longer.
+pub const PLAN_BOUND: usize = 3 * (2 + 3 * MOST_LINKS);
+/// Of a stored plan, and of a room for one.
+pub const LONGEST_PLAN: usize = PLAN_BOUND + SPARE;
 
 /// A whole record: kind, length, fields.
 pub fn record(kind: char, fields: &[&[u8]]) -> Vec<u8> {

@@ -2,13 +2,14 @@
 //! Those that are accepted have shapes of every kind, equal paths, the largest
 //! size and weights at their limits; the others reach refusals 1 to 8.
 //!
-//! Deliberate plans come first. COUNT plans at random follow: two of three are
-//! small and good, the third may be anything.
+//! COUNT is the number of plans. Deliberate ones come first, the rest is drawn
+//! at random: two of three are small and good, the third may be anything.
 
 use crate::chance::Chance;
 use crate::networks::{net_list, net_of_size, Net, Weights, MOST_LINKS};
+use crate::record::PLAN_BOUND;
 use crate::shapes::Shape;
-use crate::stored::{longest, plan_at_random, plan_list, Draft};
+use crate::stored::{lengthened, longest, plan_at_random, plan_list, Draft};
 
 const FULL_PLANS: usize = 84;
 const FAR_TOO_LONG: usize = 100_000;
@@ -29,15 +30,15 @@ fn full_plans(chance: &mut Chance) -> Vec<Vec<u8>> {
     plans
 }
 
-/// Far more bytes than a plan can have: a good plan and what is left over,
-/// then one byte over and over.
+/// More bytes than a plan can have: a good plan and what is left over, at the
+/// length that the report program keeps of its input, beside it and far past
+/// it; then one byte over and over.
 fn overlong_plans(chance: &mut Chance) -> Vec<Vec<u8>> {
-    let mut plans = vec![longest(chance).plan()];
-    plans.extend([0x00, 0x01, 0x80, 0xFF].map(|byte| vec![byte]));
-    for plan in &mut plans {
-        let filler = plan[plan.len() - 1];
-        plan.resize(FAR_TOO_LONG, filler);
-    }
+    let longest = longest(chance).plan();
+    let kept = PLAN_BOUND + 1;
+    let lengths = [kept - 1, kept, kept + 1, FAR_TOO_LONG];
+    let mut plans = lengths.map(|length| lengthened(longest.clone(), length, 0x01)).to_vec();
+    plans.extend([0x00, 0x01, 0x80, 0xFF].map(|byte| vec![byte; FAR_TOO_LONG]));
     plans
 }
 
@@ -57,10 +58,11 @@ pub fn make(chance: &mut Chance, count: usize) -> Vec<u8> {
     // third is enough, with every kind of case in it.
     plans.extend(plan_list(chance).into_iter().step_by(3).map(|(_, plan)| plan));
     let deliberate = plans.len();
-    for _ in 0..count {
-        plans.push(plan_drawn(chance));
+    plans.resize_with(count, || plan_drawn(chance));
+    if deliberate > count {
+        eprintln!("{:6} deliberate plans left out: the count is too small for them", deliberate - count);
     }
-    eprintln!("{:6} plans: {deliberate} deliberate, {count} at random", plans.len());
+    eprintln!("{count:6} plans: {} deliberate, the rest at random", deliberate.min(count));
 
     let line = |plan: &Vec<u8>| plan.iter().map(|byte| format!("{byte:02x}")).collect::<String>() + "\n";
     plans.iter().map(line).collect::<String>().into_bytes()

@@ -187,7 +187,7 @@ fn odd_values(nodes: usize) -> Vec<usize> {
 
 pub type PlanCase = (&'static str, Vec<u8>);
 
-fn lengthened(mut plan: Vec<u8>, length: usize, filler: u8) -> Vec<u8> {
+pub fn lengthened(mut plan: Vec<u8>, length: usize, filler: u8) -> Vec<u8> {
     plan.resize(length, filler);
     plan
 }
