@@ -36,6 +36,11 @@ reports() {
         "$out/compare_reports" "sh run.sh nightplan" "$out/second report" "$out/reports.batch" plans/*.plan
 }
 
+# the second program writes what a proved program's stored run has: the proved program, the second program's sub-command
+stored() {
+    "$out/second" "$2" < "crates/$1/stdin" > "$out/$1.stored" && cmp "$out/$1.stored" "crates/$1/stdout"
+}
+
 # an example plan that is drawn stands there as it is drawn
 example() {
     "$out/generate" example "$1" | cmp - "plans/$1.plan"
@@ -48,6 +53,9 @@ networks=500
 if compile second/second.rs second && compile compare/generate/main.rs generate && compile compare/compare.rs compare &&
     compile compare/compare_reports.rs compare_reports; then
     check "$out/second" selftest
+    check stored codec codec
+    check stored answers tables
+    check stored nightplan report
     check records codec codec 2500 codec codec
     check records answers tables "$networks" answers tables
     check reports
