@@ -14,8 +14,8 @@ use Rattle.graph.specs.Network.{Network, WellFormed, link, head}
 use Rattle.graph.specs.Path.{Chain, step}
 use Rattle.graph.specs.Entries.{Hop, nowhere, Entry, ForwardingEntry, at-destination, starts, lacks}
 use Rattle.graph.specs.Walk.{Tables, Step, crosses, nothing, drops, around, stepBy, Ending, delivered, unrouted, dropped, exhausted}
-use Rattle.graph.specs.Walk.{astray, Course, endsBy, crossing, walkFrom, walkOf}
-use Rattle.graph.specs.Demand3.{RightEntries}
+use Rattle.graph.specs.Walk.{astray, endsBy, crossing, goesOn, walkFrom, walkOf}
+use Rattle.graph.specs.Later.{RightEntries}
 use Rattle.graph.proofs.Chain.{first-present}
 use Rattle.graph.proofs.Entries.{forwarding-leads}
 use Rattle.graph.proofs.Walk.{arrives, goes-walk}
@@ -70,12 +70,8 @@ module _ (N : Network) (W : WellFormed N) (d : ℕ) (Y : ℕ → ℕ → Type 0)
   by-step : (limit : ℕ) (lost : Ending) (s : Step) → Safe N d lost s
       → ((f : ℕ) → ForwardingEntry N d f (T .forwarding f) → T .forwarding f ≢ nowhere
       → NotAstray (walkFrom N failed T d limit (head N f) (T .forwarding f) astray .ending))
-      → NotAstray ((elim s as (λ x. Course) [
-        | crosses f ↦ crossing f (walkFrom N failed T d limit (head N f) (T .forwarding f) astray)
-        | nothing ↦ endsBy lost
-        | drops ↦ endsBy dropped
-      ]) .ending)
-  unfolding endsBy crossing
+      → NotAstray (goesOn (λ f. walkFrom N failed T d limit (head N f) (T .forwarding f) astray) lost s .ending)
+  unfolding goesOn endsBy crossing
   by-step limit lost (crosses f) (joined up c) next =
       let entry = right .forwarding f up in
       next f entry (λ e. forwarding-leads N W d f c (rw e at entry))

@@ -18,7 +18,8 @@ use Rattle.graph.specs.Path.{BestPath, All, But}
 use Rattle.graph.specs.Path.{Each, Each.none as each-none, Each.both as each-both, Distinct, Distinct.none as distinct-none, fresh}
 use Rattle.graph.specs.Entries.{onward}
 use Rattle.graph.specs.Walk.{Tables, failedBy, Ending, delivered, unrouted, dropped, walkOf}
-use Rattle.graph.specs.Demand3.{BuiltEntries, RightEntries, LeavesIn, Works, Demand3, FirmDetour}
+use Rattle.graph.specs.Demand3.{BuiltEntries, Works, Demand3}
+use Rattle.graph.specs.Later.{RightEntries, LeavesIn, FirmDetour}
 use Rattle.graph.proofs.Interfaces.{tail-node}
 use Rattle.graph.proofs.Chain.{Best, back, find, chain-append, chain-back, chain-upto, chain-from, first-present, first-tail}
 use Rattle.graph.proofs.Chain.{over-append, over-left, over-back, over-weaken, best-from, best-after, over-before, over-after}

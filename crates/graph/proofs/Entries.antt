@@ -11,7 +11,8 @@ use native.Mathlib.Omega.{arith}
 use Rattle.graph.specs.Network.{Network, WellFormed, link, reverse, tail, head}
 use Rattle.graph.specs.Path.{Chain, stop, Over, none, All, But}
 use Rattle.graph.specs.Entries.{Hop, here, onward, nowhere, Entry, at-destination, starts, lacks, KeyLink, Free, RoutingEntry}
-use Rattle.graph.specs.Entries.{NearestKeyLink, ForwardingEntry, BackwardingEntry}
+use Rattle.graph.specs.Entries.{ForwardingEntry, BackwardingEntry}
+use Rattle.graph.specs.Later.{NearestKeyLink}
 use Rattle.graph.proofs.Interfaces.{link-reverse}
 use Rattle.graph.proofs.Chain.{Best, cost, back, link-cost-positive, cost-append, chain-nil, best-from, best-after, best-fewer}
 use Rattle.graph.proofs.Chain.{over-weaken}

@@ -16,3 +16,4 @@ pub mod Arrival
 pub mod Sets
 pub mod Without
 pub mod Dearest
+pub mod Moves

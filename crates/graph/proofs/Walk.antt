@@ -15,8 +15,9 @@ use Rattle.graph.specs.Path.{Chain, Path, Over, both, All, But}
 use Rattle.graph.specs.Path.{Each, Each.none as each-none, Each.both as each-both}
 use Rattle.graph.specs.Entries.{Hop, onward, nowhere, Entry, Free}
 use Rattle.graph.specs.Walk.{Tables, around, stepBy, Ending, delivered, unrouted, dropped, exhausted, astray, endsBy, crossing}
-use Rattle.graph.specs.Walk.{walkFrom}
-use Rattle.graph.specs.Demand3.{BuiltEntries, RightEntries, LeavesIn, Works}
+use Rattle.graph.specs.Walk.{goesOn, walkFrom}
+use Rattle.graph.specs.Demand3.{BuiltEntries, Works}
+use Rattle.graph.specs.Later.{RightEntries, LeavesIn}
 use Rattle.graph.proofs.Interfaces.{link-reverse, head-reverse}
 use Rattle.graph.proofs.Chain.{Best, back, chain-nil, first-present, first-tail, first-over, over-weaken, over-right, best-from}
 use Rattle.graph.proofs.Chain.{best-after, best-fewer, twice, over-after}
@@ -76,7 +77,7 @@ module _ {N : Network} {failed : ℕ → Bool} {T : Tables} {d : ℕ} where
   -- with limit enough the walk is that
   pub goes-walk : {i : ℕ} {e : Hop} {p : List ℕ} {r : Ending} (limit : ℕ) (lost : Ending) → Goes N failed T d i e p r
       → length p + laststep r ≤ limit → walkFrom N failed T d limit i e lost ≡ record { crossed = p; ending = r }
-  unfolding walkFrom endsBy crossing stepBy around
+  unfolding walkFrom goesOn endsBy crossing stepBy around
   goes-walk {i} zero lost (arrives a) room = rw (eq-eqb i d a, walkFrom)
   goes-walk {i} (suc limit) lost (arrives a) room = rw (eq-eqb i d a, walkFrom)
   goes-walk zero lost (blocked n down no-entry) room = absurd (omega arith)
@@ -91,7 +92,7 @@ module _ {N : Network} {failed : ℕ → Bool} {T : Tables} {d : ℕ} where
 -- with no entry to follow it ends where it stands
 pub lost-walk : (N : Network) (failed : ℕ → Bool) (T : Tables) {i d : ℕ} (limit : ℕ) (lost : Ending) → i ≢ d → 0 < limit
     → walkFrom N failed T d limit i nowhere lost ≡ record { crossed = []; ending = lost }
-unfolding walkFrom endsBy stepBy
+unfolding walkFrom goesOn endsBy stepBy
 lost-walk N failed T zero lost n room = absurd (omega arith)
 lost-walk N failed T {i} {d} (suc limit) lost n room = rw (ne-eqb i d n, walkFrom)
 

@@ -1,16 +1,17 @@
--- Demand 3: "With at most one failed link, the walk over the built tables is delivered exactly if a chain of working links exists: at
--- most 2n - 3 hops, each working, no link twice in one direction; else it ends at the start or at the failed link within n - 2 hops."
--- Each definition stands under the words that it says; `Demand3` is the whole, of the course of one walk.
+-- Demand 3 of a course, for the mathematics. The promise of the public entries, of a walk's answer and trace, is `Demand3` of crate walk;
+-- its proof stands on this one. "With at most one failed link, the walk over the built tables is delivered exactly if a chain of working
+-- links exists: at most 2n - 3 hops, each working, no link twice in one direction; else it ends at the start or at the failed link within
+-- n - 2 hops." Each definition stands under the words that it says; `Demand3` is the whole, of the course of one walk.
 use mathlib.Core.Path.{_≡_}
 use mathlib.Core.Logic.{_≢_, _⊎_, _↔_}
 use mathlib.Core.Bool.{Bool, true, false}
-use mathlib.Core.List.{List, [], _∷_, _++_}
+use mathlib.Core.List.{List, []}
 use mathlib.Core.Option.{Option}
 use Prim.Native.Nat.{ℕ, _+_, _*_, _<_, _≤_}
 use lib.ListN.{length}
 use Rattle.graph.specs.Network.{Network, link, tail}
-use Rattle.graph.specs.Path.{Chain, Over, Distinct, visits, BestPath, All, But}
-use Rattle.graph.specs.Entries.{onward, Entry, Free, RoutingEntry, ForwardingEntry, BackwardingEntry}
+use Rattle.graph.specs.Path.{Chain, Over, Distinct}
+use Rattle.graph.specs.Entries.{onward, RoutingEntry, ForwardingEntry, BackwardingEntry}
 use Rattle.graph.specs.Walk.{Tables, failedBy, delivered, unrouted, dropped, Course}
 
 -- "the built tables": the entries for destination d are what the three definitions say
@@ -56,27 +57,3 @@ pub record Demand3 (N : Network) (failure : Option ℕ) (s d : ℕ) (c : Course)
   pub exactly : (c .ending ≡ delivered) ↔ Joined N failure s d
   pub arrived : c .ending ≡ delivered → Arrived N failure s d c
   pub refused : c .ending ≢ delivered → Unrouted N s d c ⊎ Dropped N failure s d c
-
--- The firmer promise (document 02): "a walk over built tables that meets the one failed link follows the best path up to it, and from
--- that node on visits no node twice." The link is met as interface `meets`, and the walk goes on along `rest`.
-pub record FirmDetour (N : Network) (failure : Option ℕ) (s d : ℕ) (c : Course) : Type 0 where
-  pub before : List ℕ
-  pub meets : ℕ
-  pub failed : failedBy failure (link meets) ≡ true
-  pub after : List ℕ
-  pub best : BestPath N All s (before ++ meets ∷ after) d
-  pub rest : List ℕ
-  pub crossed : c .crossed ≡ before ++ rest
-  pub once : Distinct (visits N (tail N meets) rest)
-
--- Backwarding entries by another rule: `Y h` are the links left in for interface h, and the entries are right for that rule.
-pub record RightEntries (N : Network) (d : ℕ) (Y : ℕ → ℕ → Type 0) (T : Tables) : Type 0 where
-  pub routing : (i : ℕ) → i < N .nodes → RoutingEntry N d i (T .routing i)
-  pub forwarding : (h : ℕ) → N .Present (link h) → ForwardingEntry N d h (T .forwarding h)
-  pub backwarding : (h : ℕ) → N .Present (link h) → Entry N (Y h) (tail N h) d (T .backwarding h)
-
--- The rules under which demand 3 still holds: the interface's own link is left out, and more may be, but nothing more where the
--- interface has no key links.
-pub record LeavesIn (N : Network) (d : ℕ) (Y : ℕ → ℕ → Type 0) : Type 0 where
-  pub without-own : (h k : ℕ) → Y h k → But (link h) k
-  pub all-others : (h : ℕ) → ((k : ℕ) → Free N d h k) → (k : ℕ) → But (link h) k → Y h k

@@ -48,13 +48,3 @@ ForwardingEntry N d h = Entry N (Free N d h) (head N h) d
 -- "Backwarding entry of interface i to j for d: the first node on the best path from i to d when link i-j is taken out."
 abbrev pub BackwardingEntry : Network → ℕ → ℕ → Hop → Type 0
 BackwardingEntry N d h = Entry N (But (link h)) (tail N h) d
-
--- "the one nearest the destination" (document 02) among the key links of interface h: the last on the best path from the head
-pub record NearestKeyLink (N : Network) (d h k : ℕ) : Type 0 where
-  pub key : KeyLink N d h k
-  pub before : List ℕ
-  pub crossing : ℕ
-  pub is : link crossing ≡ k
-  pub after : List ℕ
-  pub routing : BestPath N All (head N h) (before ++ crossing ∷ after) d
-  pub last : Over (Free N d h) after

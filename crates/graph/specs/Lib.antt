@@ -4,3 +4,4 @@ pub mod Entries
 pub mod Walk
 pub mod Set
 pub mod Demand3
+pub mod Later

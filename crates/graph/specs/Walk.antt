@@ -56,6 +56,12 @@ endsBy e = record { crossed = []; ending = e }
 unfoldable pub crossing : ℕ → Course → Course
 crossing f c = record { crossed = f ∷ c .crossed; ending = c .ending }
 
+-- the course from a node on, by the step there: over the interface crossed and on by `next`, or it ends
+unfoldable pub goesOn : (ℕ → Course) → Ending → Step → Course
+goesOn next lost (crosses f) = crossing f (next f)
+goesOn next lost nothing = endsBy lost
+goesOn next lost drops = endsBy dropped
+
 -- "At each node, in this order: destination reached; hop limit used up; the step." The walk stands at node i with the entry that
 -- it reads there, and with the ending that it has if that entry leads nowhere.
 unfoldable pub walkFrom : Network → (ℕ → Bool) → Tables → ℕ → ℕ → ℕ → Hop → Ending → Course
@@ -63,11 +69,8 @@ walkFrom N failed T d zero i entry lost = elim (eqb i d) [ true ↦ endsBy deliv
 walkFrom N failed T d (suc limit) i entry lost =
     elim (eqb i d) [
       | true ↦ endsBy delivered
-      | false ↦ elim (stepBy failed (T .backwarding) entry) [
-        | crosses f ↦ crossing f (walkFrom N failed T d limit (head N f) (T .forwarding f) astray)
-        | nothing ↦ endsBy lost
-        | drops ↦ endsBy dropped
-      ]
+      | false ↦
+          goesOn (λ f. walkFrom N failed T d limit (head N f) (T .forwarding f) astray) lost (stepBy failed (T .backwarding) entry)
     ]
 
 -- the walk from a source: it starts with the routing entry
