@@ -4,14 +4,14 @@
 use Prim.Native.Nat.{ℕ, zero, suc, _<_}
 use mathlib.Core.Path.{_≡_, sym}
 use mathlib.Core.Logic.{inl, inr}
-use mathlib.Core.List.{List}
 use native.Mathlib.Decide.{ℕ-discrete, decLt}
 use native.Mathlib.Omega.{arith}
 use lib.ListN.{length, getD}
 use Rattle.graph.specs.Network.{WellFormed, SingleLinks}
 use Rattle.net.specs.Refusals.{accepted}
-use Rattle.net.specs.Rows.{networkOf}
+use Rattle.net.specs.Rows.{Rows, networkOf}
 use Rattle.net.specs.Check.{checkNetwork, verdict, Ascends, Accepted}
+use Rattle.net.proofs.Rows.{present-row, present?}
 use Rattle.net.proofs.Stages as stages
 
 ascends-through : {a b c d e f : ℕ} → Ascends a b c d → Ascends c d e f → Ascends a b e f
@@ -20,29 +20,31 @@ ascends-through (inl h) (inr l) = inl (omega arith)
 ascends-through (inr h) (inl l) = inl (omega arith)
 ascends-through (inr h) (inr l) = inr (omega arith, omega arith)
 
-module _ (n : ℕ) (low high weight : List ℕ) where
-  pub accepts-check : Accepted n low high weight → checkNetwork n low high weight ≡ verdict accepted
-  accepts-check = stages.accepts-check n low high weight
+module _ (R : Rows) where
+  open Rows R using (nodes as n, low, high, weight)
 
-  pub check-accepts : checkNetwork n low high weight .number ≡ accepted → Accepted n low high weight
+  pub accepts-check : Accepted R → checkNetwork R ≡ verdict accepted
+  accepts-check = stages.accepts-check R
+
+  pub check-accepts : checkNetwork R .number ≡ accepted → Accepted R
   check-accepts e =
-      elim (stages.decided n low high weight) [
+      elim (stages.decided R) [
         | inl A ↦ A
-        | inr (number, place, R) ↦
-            let refused : number ≡ accepted = cc (stages.refused-check n low high weight R) in
-            absurd (stages.refused-number n low high weight R refused)
+        | inr (number, place, refusal) ↦
+            let refused : number ≡ accepted = cc (stages.refused-check R refusal) in
+            absurd (stages.refused-number R refusal refused)
       ]
 
-  module _ (A : Accepted n low high weight) where
-    pub well-formed : WellFormed (networkOf n low high weight)
+  module _ (A : Accepted R) where
+    pub well-formed : WellFormed (networkOf R)
     well-formed =
         record {
-          numbered = λ k h. h;
-          low-node = λ k h. omega (arith, A .joins k h);
-          high-node = λ k h. A .joins k h .node;
-          ends-differ = λ k h e. omega (arith, A .joins k h);
-          weighs = λ k h. A .joins k h .weighs;
-          present? = λ k. decLt k (length low);
+          numbered = λ k h. present-row R k h;
+          low-node = λ k h. omega (arith, A .joins k (present-row R k h));
+          high-node = λ k h. A .joins k (present-row R k h) .node;
+          ends-differ = λ k h e. omega (arith, A .joins k (present-row R k h));
+          weighs = λ k h. A .joins k (present-row R k h) .weighs;
+          present? = present? R;
         }
 
     -- a later link comes after every earlier one, so their ends differ
@@ -59,13 +61,14 @@ module _ (n : ℕ) (low high weight : List ℕ) where
         elim (later k l h present) [ inl a ↦ omega arith | inr a ↦ omega arith ]
 
     -- "At most one link joins a pair."
-    pub single-links : SingleLinks (networkOf n low high weight)
-    single-links k l here there (inr crosswise) = absurd (omega (arith, A .joins k here, A .joins l there))
+    pub single-links : SingleLinks (networkOf R)
+    single-links k l here there (inr crosswise) =
+        absurd (omega (arith, A .joins k (present-row R k here), A .joins l (present-row R l there)))
     single-links k l here there (inl same) =
         elim (decLt k l) [
-          | yes h ↦ absurd (later-differs k l h there (same .0) (same .1))
+          | yes h ↦ absurd (later-differs k l h (present-row R l there) (same .0) (same .1))
           | no h ↦ elim (decLt l k) [
-            | yes g ↦ absurd (later-differs l k g here (sym (same .0)) (sym (same .1)))
+            | yes g ↦ absurd (later-differs l k g (present-row R k here) (sym (same .0)) (sym (same .1)))
             | no g ↦ omega arith
           ]
         ]

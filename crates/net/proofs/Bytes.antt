@@ -1,7 +1,6 @@
 -- Entries as bytes: which byte each kind of entry gives, and that an entry's byte is one. Heads are nodes, so one byte holds them.
 use Prim.Native.Nat.{ℕ, _%_, _≤_, _<_}
 use mathlib.Core.Path.{_≡_, refl, sym, ap, _∙_}
-use mathlib.Core.List.{List}
 use native.Mathlib.Omega.{arith}
 use Rattle.graph.specs.Network.{Network, WellFormed}
 use Rattle.graph.specs.Entries.{here, onward, nowhere, Entry, at-destination, starts}
@@ -10,7 +9,7 @@ use Rattle.graph.proofs.Chain.{first-present}
 use Rattle.graph.proofs.Entries.{entry-one}
 use Rattle.net.specs.Limits.{mostNodes}
 use Rattle.net.specs.Entry.{hereByte, nowhereByte, byteOf, EntryByte}
-use Rattle.net.specs.Rows.{networkOf, headOf}
+use Rattle.net.specs.Rows.{Rows, networkOf, headOf}
 use Rattle.net.proofs.Rows.{head-of}
 
 module _ {N : Network} {X : ℕ → Type 0} {i d : ℕ} where
@@ -26,12 +25,12 @@ module _ {N : Network} {X : ℕ → Type 0} {i d : ℕ} where
   unfolding byteOf
   nowhere-byte entry = record { hop = nowhere; entry = entry; is = refl }
 
-pub onward-byte : (n : ℕ) (low high weight : List ℕ) → WellFormed (networkOf n low high weight) → n ≤ mostNodes
-    → {X : ℕ → Type 0} {i d f : ℕ} → Entry (networkOf n low high weight) X i d (onward f)
-    → EntryByte (networkOf n low high weight) X i d (headOf low high f % 256)
+pub onward-byte : (R : Rows) → WellFormed (networkOf R) → R .nodes ≤ mostNodes
+    → {X : ℕ → Type 0} {i d f : ℕ} → Entry (networkOf R) X i d (onward f) → EntryByte (networkOf R) X i d (headOf (R .low) (R .high) f % 256)
 unfolding byteOf
-onward-byte n low high weight W few {f = f} (starts away t) =
-    let N = networkOf n low high weight in
-    let node : headOf low high f < n = rw (head-of n low high weight f) at (head-node N W f (first-present N (t .path .chain))) in
-    let fits : headOf low high f % 256 ≡ headOf low high f = omega arith in
-    record { hop = onward f; entry = starts away t; is = fits ∙ sym (head-of n low high weight f) }
+onward-byte R W few {f = f} (starts away t) =
+    let N = networkOf R in
+    let v = headOf (R .low) (R .high) f in
+    let node : v < R .nodes = rw (head-of R f) at (head-node N W f (first-present N (t .path .chain))) in
+    let fits : v % 256 ≡ v = omega arith in
+    record { hop = onward f; entry = starts away t; is = fits ∙ sym (head-of R f) }

@@ -4,38 +4,53 @@ use Prim.Native.Nat.{ℕ, zero, suc, _+_, _-_, _≤_, _<_}
 use mathlib.Core.Bool.{Bool, true, false}
 use mathlib.Core.Path.{_≡_, refl, sym, _∙_}
 use mathlib.Core.Logic.{_⊎_, inl, inr, _≢_}
-use mathlib.Core.List.{List}
 use native.Mathlib.Nat.{sub-zero}
 use native.Mathlib.Omega.{arith}
 use borrow.Author.Tests.{ne-eqb, eq-eqb, lt-ltb, le-ltb}
 use lib.ListN.{length, getD}
 use Rattle.net.specs.Refusals.{accepted, nodeCount, linkCount, linkEnds, linkWeight, linkOrder, rowLengths}
 use Rattle.net.specs.Limits.{mostNodes, mostLinks}
+use Rattle.net.specs.Rows.{Rows}
 use Rattle.net.specs.Check.{badEnds, outOfOrder, badWeight, linkFault, linksFrom, verdict, rowsDiffer, badNodeCount, checkNetwork}
 use Rattle.net.specs.declared.check.Verdict.{Verdict}
 
-module _ (n : ℕ) (low high weight : List ℕ) (k : ℕ) where
-  pub fault-ends : badEnds n (getD low k 0) (getD high k 0) ≡ true → linkFault n low high weight k ≡ linkEnds
+module _ (R : Rows) (k : ℕ) where
+  open Rows R using (nodes as n, low, high, weight)
+
+  pub fault-ends : badEnds n (getD low k 0) (getD high k 0) ≡ true → linkFault R k ≡ linkEnds
   unfolding linkFault
   fault-ends e = simp e
 
-  pub fault-order : badEnds n (getD low k 0) (getD high k 0) ≡ false → outOfOrder low high k ≡ true → linkFault n low high weight k ≡ linkOrder
+  pub fault-order : badEnds n (getD low k 0) (getD high k 0) ≡ false → outOfOrder low high k ≡ true → linkFault R k ≡ linkOrder
   unfolding linkFault
   fault-order e o = simp (e, o)
 
   pub fault-weight : badEnds n (getD low k 0) (getD high k 0) ≡ false → outOfOrder low high k ≡ false
-      → badWeight (getD weight k 0) ≡ true → linkFault n low high weight k ≡ linkWeight
+      → badWeight (getD weight k 0) ≡ true → linkFault R k ≡ linkWeight
   unfolding linkFault
   fault-weight e o w = simp (e, o, w)
 
   pub fault-none : badEnds n (getD low k 0) (getD high k 0) ≡ false → outOfOrder low high k ≡ false
-      → badWeight (getD weight k 0) ≡ false → linkFault n low high weight k ≡ accepted
+      → badWeight (getD weight k 0) ≡ false → linkFault R k ≡ accepted
   unfolding linkFault
   fault-none e o w = simp (e, o, w)
 
+-- the node count
+pub no-nodes : (n : ℕ) → n ≡ 0 → badNodeCount n ≡ true
+unfolding badNodeCount
+no-nodes n e = simp (eq-eqb n 0 e)
+
+pub too-many-nodes : (n : ℕ) → mostNodes < n → badNodeCount n ≡ true
+unfolding badNodeCount
+too-many-nodes n h = simp (ne-eqb n 0 (λ e. omega arith), lt-ltb _ _ h)
+
+pub few-nodes : (n : ℕ) → n ≢ 0 → n ≤ mostNodes → badNodeCount n ≡ false
+unfolding badNodeCount
+few-nodes n some h = simp (ne-eqb n 0 some, le-ltb _ _ h)
+
 -- the links from k on, of m in all: done, left at the first fault, or gone on
-module _ (m n : ℕ) (low high weight : List ℕ) where
-  pub links-done : (k : ℕ) → m ≤ k → linksFrom (m - k) n low high weight k ≡ verdict accepted
+module _ (m : ℕ) (R : Rows) where
+  pub links-done : (k : ℕ) → m ≤ k → linksFrom (m - k) R k ≡ verdict accepted
   unfolding linksFrom
   links-done k h =
       let e : m - k ≡ 0 = omega arith in
@@ -47,44 +62,39 @@ module _ (m n : ℕ) (low high weight : List ℕ) where
   one-more : (k : ℕ) → suc k ≡ k + 1
   one-more k = omega arith
 
-  pub links-on : (k : ℕ) → k < m → linkFault n low high weight k ≡ accepted
-      → linksFrom (m - k) n low high weight k ≡ linksFrom (m - (k + 1)) n low high weight (k + 1)
+  pub links-on : (k : ℕ) → k < m → linkFault R k ≡ accepted
+      → linksFrom (m - k) R k ≡ linksFrom (m - (k + 1)) R (k + 1)
   unfolding linksFrom
   links-on k h e = simp (less-one k h, e, one-more k)
 
-  pub links-left : (k fault : ℕ) → k < m → linkFault n low high weight k ≡ fault → fault ≢ 0
-      → linksFrom (m - k) n low high weight k ≡ record { number = fault; place = k }
+  pub links-left : (k fault : ℕ) → k < m → linkFault R k ≡ fault → fault ≢ 0
+      → linksFrom (m - k) R k ≡ record { number = fault; place = k }
   unfolding linksFrom
   links-left k fault h e f = simp (less-one k h, e, ne-eqb fault 0 f)
 
 -- the tests before the links
-module _ (n : ℕ) (low high weight : List ℕ) where
-  pub high-differs : length high ≢ length low → checkNetwork n low high weight ≡ verdict rowLengths
+module _ (R : Rows) where
+  open Rows R using (nodes as n, low, high, weight)
+
+  pub high-differs : length high ≢ length low → checkNetwork R ≡ verdict rowLengths
   unfolding checkNetwork rowsDiffer
   high-differs h = simp (ne-eqb (length high) (length low) h)
 
   module _ (same-high : length high ≡ length low) where
-    pub weight-differs : length weight ≢ length low → checkNetwork n low high weight ≡ verdict rowLengths
+    pub weight-differs : length weight ≢ length low → checkNetwork R ≡ verdict rowLengths
     unfolding checkNetwork rowsDiffer
     weight-differs h = simp (eq-eqb _ _ same-high, ne-eqb (length weight) (length low) h)
 
     module _ (same-weight : length weight ≡ length low) where
-      pub no-nodes : n ≡ 0 → checkNetwork n low high weight ≡ verdict nodeCount
-      unfolding checkNetwork rowsDiffer badNodeCount
-      no-nodes e = simp (eq-eqb _ _ same-high, eq-eqb _ _ same-weight, eq-eqb n 0 e)
+      pub many-nodes : badNodeCount n ≡ true → checkNetwork R ≡ verdict nodeCount
+      unfolding checkNetwork rowsDiffer
+      many-nodes e = simp (eq-eqb _ _ same-high, eq-eqb _ _ same-weight, e)
 
-      module _ (some-node : n ≢ 0) where
-        pub many-nodes : mostNodes < n → checkNetwork n low high weight ≡ verdict nodeCount
-        unfolding checkNetwork rowsDiffer badNodeCount
-        many-nodes h = simp (eq-eqb _ _ same-high, eq-eqb _ _ same-weight, ne-eqb n 0 some-node, lt-ltb _ _ h)
+      module _ (few-nodes : badNodeCount n ≡ false) where
+        pub many-links : mostLinks < length low → checkNetwork R ≡ verdict linkCount
+        unfolding checkNetwork rowsDiffer
+        many-links h = simp (eq-eqb _ _ same-high, eq-eqb _ _ same-weight, few-nodes, lt-ltb _ _ h)
 
-        module _ (few-nodes : n ≤ mostNodes) where
-          pub many-links : mostLinks < length low → checkNetwork n low high weight ≡ verdict linkCount
-          unfolding checkNetwork rowsDiffer badNodeCount
-          many-links h =
-              simp (eq-eqb _ _ same-high, eq-eqb _ _ same-weight, ne-eqb n 0 some-node, le-ltb _ _ few-nodes, lt-ltb _ _ h)
-
-          pub links-begin : length low ≤ mostLinks → checkNetwork n low high weight ≡ linksFrom (length low - 0) n low high weight 0
-          unfolding checkNetwork rowsDiffer badNodeCount
-          links-begin h =
-              simp (sub-zero, eq-eqb _ _ same-high, eq-eqb _ _ same-weight, ne-eqb n 0 some-node, le-ltb _ _ few-nodes, le-ltb _ _ h)
+        pub links-begin : length low ≤ mostLinks → checkNetwork R ≡ linksFrom (length low - 0) R 0
+        unfolding checkNetwork rowsDiffer
+        links-begin h = simp (sub-zero, eq-eqb _ _ same-high, eq-eqb _ _ same-weight, few-nodes, le-ltb _ _ h)

@@ -6,3 +6,4 @@ pub mod Refused
 pub mod Determined
 pub mod Verdicts
 pub mod Bytes
+pub mod Overwrite

@@ -3,8 +3,8 @@
 use Prim.Native.Nat.{ℕ}
 use mathlib.Core.Path.{_≡_, sym, ap, _∙_}
 use mathlib.Core.Logic.{inl, inr, _≢_, _↔_}
-use mathlib.Core.List.{List}
 use Rattle.net.specs.Refusals.{accepted}
+use Rattle.net.specs.Rows.{Rows}
 use Rattle.net.specs.Check.{checkNetwork}
 use Rattle.net.specs.Refused.{Refused}
 use Rattle.net.specs.declared.check.Verdict.{Verdict}
@@ -16,18 +16,18 @@ number-of answer = answer .number
 abbrev place-of : Verdict → ℕ
 place-of answer = answer .place
 
-module _ (n : ℕ) (low high weight : List ℕ) (number place : ℕ) where
-  check-refuses : checkNetwork n low high weight ≡ record { number = number; place = place } → number ≢ accepted
-      → Refused n low high weight number place
+module _ (R : Rows) (number place : ℕ) where
+  check-refuses : checkNetwork R ≡ record { number = number; place = place } → number ≢ accepted
+      → Refused R number place
   check-refuses e h =
-      elim (stages.decided n low high weight) [
-        | inl A ↦ absurd (h (ap number-of (sym e ∙ stages.accepts-check n low high weight A)))
-        | inr (m, p, R) ↦
-            let same = sym (stages.refused-check n low high weight R) ∙ e in
-            rw (ap number-of same, ap place-of same) at R
+      elim (stages.decided R) [
+        | inl A ↦ absurd (h (ap number-of (sym e ∙ stages.accepts-check R A)))
+        | inr (m, p, refusal) ↦
+            let same = sym (stages.refused-check R refusal) ∙ e in
+            rw (ap number-of same, ap place-of same) at refusal
       ]
 
-  pub refused-exactly : Refused n low high weight number place
-      ↔ ((checkNetwork n low high weight ≡ record { number = number; place = place }) × (number ≢ accepted))
+  pub refused-exactly : Refused R number place
+      ↔ ((checkNetwork R ≡ record { number = number; place = place }) × (number ≢ accepted))
   refused-exactly =
-      (λ R. (stages.refused-check n low high weight R, stages.refused-number n low high weight R), λ s. check-refuses (s .0) (s .1))
+      (λ refusal. (stages.refused-check R refusal, stages.refused-number R refusal), λ s. check-refuses (s .0) (s .1))

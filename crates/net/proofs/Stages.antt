@@ -4,7 +4,6 @@ use Prim.Native.Nat.{ℕ, zero, suc, _+_, _-_, _≤_, _<_}
 use mathlib.Core.Bool.{Bool, true, false}
 use mathlib.Core.Path.{_≡_, refl, sym, _∙_}
 use mathlib.Core.Logic.{_⊎_, inl, inr, _≢_}
-use mathlib.Core.List.{List}
 use native.Mathlib.Decide.{ℕ-discrete, decLe, decLt}
 use native.Mathlib.Numerals.{add-one}
 use native.Mathlib.Omega.{arith}
@@ -12,7 +11,8 @@ use borrow.Author.Tests.{lt-ltb, le-ltb, le-leb, lt-leb, eq-eqb, ne-eqb}
 use lib.ListN.{length, getD}
 use Rattle.net.specs.Limits.{mostNodes, mostLinks, mostWeight}
 use Rattle.net.specs.Refusals.{accepted}
-use Rattle.net.specs.Check.{comesAfter, badEnds, badWeight, outOfOrder, linkFault, linksFrom, checkNetwork, verdict}
+use Rattle.net.specs.Rows.{Rows}
+use Rattle.net.specs.Check.{comesAfter, badEnds, badWeight, badNodeCount, outOfOrder, linkFault, linksFrom, checkNetwork, verdict}
 use Rattle.net.specs.Check.{Joins, Ascends, Accepted}
 use Rattle.net.specs.Refused.{BadEnds, BadWeight, InOrder, Faulty, bad-ends, not-after, bad-weight}
 use Rattle.net.specs.Refused.{Counted, Reached, Refused, rows-differ, bad-node-count, many-links, faulty-link}
@@ -93,62 +93,64 @@ after-answers a b c d =
       ]
     ]
 
-order-tells : (low high : List ℕ) (k : ℕ) → Tells (outOfOrder low high k) (InOrder low high k → ⊥) (InOrder low high k)
+order-tells : (R : Rows) (k : ℕ) → Tells (outOfOrder (R .low) (R .high) k) (InOrder R k → ⊥) (InOrder R k)
 unfolding outOfOrder
-order-tells low high k = record { answer = answer k; apart = λ bad good. bad good }
+order-tells R k = record { answer = answer k; apart = λ bad good. bad good }
   where
-    follows : (i j : ℕ) → suc j ≡ suc i → Ascends (getD low i 0) (getD high i 0) (getD low (suc i) 0) (getD high (suc i) 0)
-        → Ascends (getD low j 0) (getD high j 0) (getD low (suc i) 0) (getD high (suc i) 0)
+    follows : (i j : ℕ) → suc j ≡ suc i → Ascends (getD (R .low) i 0) (getD (R .high) i 0) (getD (R .low) (suc i) 0) (getD (R .high) (suc i) 0)
+        → Ascends (getD (R .low) j 0) (getD (R .high) j 0) (getD (R .low) (suc i) 0) (getD (R .high) (suc i) 0)
     follows i j e a =
         let same : j ≡ i = omega arith in
         rw same a
 
-    answer : (k : ℕ) → Answer (outOfOrder low high k) (InOrder low high k → ⊥) (InOrder low high k)
+    answer : (k : ℕ) → Answer (outOfOrder (R .low) (R .high) k) (InOrder R k → ⊥) (InOrder R k)
     answer zero = inr (refl, λ j e. absurd (omega arith))
     answer (suc i) =
         let before : suc i - 1 ≡ i = omega arith in
-        elim (after-answers (getD low i 0) (getD high i 0) (getD low (suc i) 0) (getD high (suc i) 0)) [
+        elim (after-answers (getD (R .low) i 0) (getD (R .high) i 0) (getD (R .low) (suc i) 0) (getD (R .high) (suc i) 0)) [
           | inl a ↦ inr (simp (lt-ltb 0 (suc i) (omega arith), before, a .0), λ j e. follows i j e (a .1))
           | inr a ↦ inl (simp (lt-ltb 0 (suc i) (omega arith), before, a .0), λ f. a .1 (f i refl))
         ]
 
-module _ (n : ℕ) (low high weight : List ℕ) where
+module _ (R : Rows) where
+  open Rows R using (nodes as n, low, high, weight)
+
   module _ (k : ℕ) where
     -- the three tests of link k
     abbrev ends : Tells (badEnds n (getD low k 0) (getD high k 0)) (BadEnds n (getD low k 0) (getD high k 0))
         ((getD low k 0 < getD high k 0) × (getD high k 0 < n))
     ends = ends-tell n (getD low k 0) (getD high k 0)
 
-    abbrev order : Tells (outOfOrder low high k) (InOrder low high k → ⊥) (InOrder low high k)
-    order = order-tells low high k
+    abbrev order : Tells (outOfOrder low high k) (InOrder R k → ⊥) (InOrder R k)
+    order = order-tells R k
 
     abbrev weighs : Tells (badWeight (getD weight k 0)) (BadWeight (getD weight k 0))
         ((0 < getD weight k 0) × (getD weight k 0 ≤ mostWeight))
     weighs = weight-tells (getD weight k 0)
 
     -- a link that passes has no fault
-    passes : Joins n (getD low k 0) (getD high k 0) (getD weight k 0) → InOrder low high k → linkFault n low high weight k ≡ accepted
+    passes : Joins n (getD low k 0) (getD high k 0) (getD weight k 0) → InOrder R k → linkFault R k ≡ accepted
     passes joins in-order =
-        faults.fault-none _ _ _ _ _
+        faults.fault-none _ _
         (fails ends (joins .below, joins .node))
         (fails order in-order)
         (fails weighs (joins .weighs, joins .light))
 
     -- a faulty link has that fault
-    faulty : {number : ℕ} → Faulty n low high weight k number → linkFault n low high weight k ≡ number
-    faulty (bad-ends h) = faults.fault-ends _ _ _ _ _ (holds ends h)
-    faulty (not-after below node h) = faults.fault-order _ _ _ _ _ (fails ends (below, node)) (holds order h)
+    faulty : {number : ℕ} → Faulty R k number → linkFault R k ≡ number
+    faulty (bad-ends h) = faults.fault-ends _ _ (holds ends h)
+    faulty (not-after below node h) = faults.fault-order _ _ (fails ends (below, node)) (holds order h)
     faulty (bad-weight below node in-order h) =
-        faults.fault-weight _ _ _ _ _ (fails ends (below, node)) (fails order in-order) (holds weighs h)
+        faults.fault-weight _ _ (fails ends (below, node)) (fails order in-order) (holds weighs h)
 
-    fault-number : {number : ℕ} → Faulty n low high weight k number → number ≢ accepted
+    fault-number : {number : ℕ} → Faulty R k number → number ≢ accepted
     fault-number (bad-ends h) e = omega arith
     fault-number (not-after below node h) e = omega arith
     fault-number (bad-weight below node in-order h) e = omega arith
 
     -- a link passes or is faulty
-    link-decided : (Joins n (getD low k 0) (getD high k 0) (getD weight k 0) × InOrder low high k)
-        ⊎ ((number : ℕ) × Faulty n low high weight k number)
+    link-decided : (Joins n (getD low k 0) (getD high k 0) (getD weight k 0) × InOrder R k)
+        ⊎ ((number : ℕ) × Faulty R k number)
     link-decided =
         elim (ends .answer) [
           | inl a ↦ inr (_, bad-ends (a .1))
@@ -162,8 +164,8 @@ module _ (n : ℕ) (low high weight : List ℕ) where
         ]
 
   -- one link more has passed, or one less
-  further : (k : ℕ) → Reached n low high weight k → Joins n (getD low k 0) (getD high k 0) (getD weight k 0) → InOrder low high k
-      → Reached n low high weight (suc k)
+  further : (k : ℕ) → Reached R k → Joins n (getD low k 0) (getD high k 0) (getD weight k 0) → InOrder R k
+      → Reached R (suc k)
   further k at joined in-order = record { counted = at .counted; few-links = at .few-links; joins = joins; ascends = ascends }
     where
       joins : (j : ℕ) → j < suc k → Joins n (getD low j 0) (getD high j 0) (getD weight j 0)
@@ -180,7 +182,7 @@ module _ (n : ℕ) (low high weight : List ℕ) where
             | no e ↦ at .ascends j (omega arith)
           ]
 
-  back : (k : ℕ) → Reached n low high weight (suc k) → Reached n low high weight k
+  back : (k : ℕ) → Reached R (suc k) → Reached R k
   back k at =
       record {
         counted = at .counted;
@@ -189,23 +191,26 @@ module _ (n : ℕ) (low high weight : List ℕ) where
         ascends = λ j h. at .ascends j (omega arith);
       }
 
-  last-in-order : (k : ℕ) → Reached n low high weight (suc k) → InOrder low high k
+  last-in-order : (k : ℕ) → Reached R (suc k) → InOrder R k
   last-in-order k at j e = rw (sym e) (at .ascends j (omega arith))
 
+  count-passes : Counted R → badNodeCount n ≡ false
+  count-passes counted = faults.few-nodes n (λ e. omega arith) (counted .few-nodes)
+
   -- the whole answer is the answer from a link on that the check reaches
-  reached : (k : ℕ) → k ≤ length low → Reached n low high weight k
-      → checkNetwork n low high weight ≡ linksFrom (length low - k) n low high weight k
+  reached : (k : ℕ) → k ≤ length low → Reached R k
+      → checkNetwork R ≡ linksFrom (length low - k) R k
   reached zero h at =
       let counted = at .counted in
-      faults.links-begin n low high weight (counted .high-row) (counted .weight-row) (λ e. omega arith) (counted .few-nodes) (at .few-links)
+      faults.links-begin R (counted .high-row) (counted .weight-row) (count-passes counted) (at .few-links)
   reached (suc k) h at =
-      let on = faults.links-on (length low) n low high weight k h (passes k (at .joins k (omega arith)) (last-in-order k at)) in
+      let on = faults.links-on (length low) R k h (passes k (at .joins k (omega arith)) (last-in-order k at)) in
       rw add-one at (reached k (omega arith) (back k at) ∙ on)
 
-  pub accepts-check : Accepted n low high weight → checkNetwork n low high weight ≡ verdict accepted
-  accepts-check A = reached (length low) (omega arith) all ∙ faults.links-done (length low) n low high weight (length low) (omega arith)
+  pub accepts-check : Accepted R → checkNetwork R ≡ verdict accepted
+  accepts-check A = reached (length low) (omega arith) all ∙ faults.links-done (length low) R (length low) (omega arith)
     where
-      all : Reached n low high weight (length low)
+      all : Reached R (length low)
       all =
           record {
             counted = record { high-row = A .high-row; weight-row = A .weight-row; some-node = A .some-node; few-nodes = A .few-nodes };
@@ -214,22 +219,22 @@ module _ (n : ℕ) (low high weight : List ℕ) where
             ascends = A .ascends;
           }
 
-  pub refused-check : {number place : ℕ} → Refused n low high weight number place
-      → checkNetwork n low high weight ≡ record { number = number; place = place }
-  refused-check (rows-differ (inl h)) = faults.high-differs n low high weight h
+  pub refused-check : {number place : ℕ} → Refused R number place
+      → checkNetwork R ≡ record { number = number; place = place }
+  refused-check (rows-differ (inl h)) = faults.high-differs R h
   refused-check (rows-differ (inr h)) =
       elim (ℕ-discrete (length high) (length low)) [
-        | yes e ↦ faults.weight-differs n low high weight e h
-        | no d ↦ faults.high-differs n low high weight d
+        | yes e ↦ faults.weight-differs R e h
+        | no d ↦ faults.high-differs R d
       ]
-  refused-check (bad-node-count e f (inl h)) = faults.no-nodes n low high weight e f h
-  refused-check (bad-node-count e f (inr h)) = faults.many-nodes n low high weight e f (λ z. omega arith) h
+  refused-check (bad-node-count e f (inl h)) = faults.many-nodes R e f (faults.no-nodes n h)
+  refused-check (bad-node-count e f (inr h)) = faults.many-nodes R e f (faults.too-many-nodes n h)
   refused-check (many-links counted h) =
-      faults.many-links n low high weight (counted .high-row) (counted .weight-row) (λ e. omega arith) (counted .few-nodes) h
+      faults.many-links R (counted .high-row) (counted .weight-row) (count-passes counted) h
   refused-check (faulty-link {number} {k} at h fault) =
-      reached k (omega arith) at ∙ faults.links-left (length low) n low high weight k number h (faulty k fault) (fault-number k fault)
+      reached k (omega arith) at ∙ faults.links-left (length low) R k number h (faulty k fault) (fault-number k fault)
 
-  pub refused-number : {number place : ℕ} → Refused n low high weight number place → number ≢ accepted
+  pub refused-number : {number place : ℕ} → Refused R number place → number ≢ accepted
   refused-number (rows-differ h) e = omega arith
   refused-number (bad-node-count f g h) e = omega arith
   refused-number (many-links counted h) e = omega arith
@@ -237,9 +242,9 @@ module _ (n : ℕ) (low high weight : List ℕ) where
 
   -- every network is accepted, or refused with some number at some place
   abbrev Decided : Type 0
-  Decided = Accepted n low high weight ⊎ ((number : ℕ) × (place : ℕ) × Refused n low high weight number place)
+  Decided = Accepted R ⊎ ((number : ℕ) × (place : ℕ) × Refused R number place)
 
-  links-decided : (left k : ℕ) → k + left ≡ length low → Reached n low high weight k → Decided
+  links-decided : (left k : ℕ) → k + left ≡ length low → Reached R k → Decided
   links-decided zero k e at =
       inl
       (record {
@@ -257,7 +262,7 @@ module _ (n : ℕ) (low high weight : List ℕ) where
         | inr a ↦ inr (a .0, k, faulty-link at (omega arith) (a .1))
       ]
 
-  counted-decided : Counted n low high weight → Decided
+  counted-decided : Counted R → Decided
   counted-decided counted =
       elim (decLt mostLinks (length low)) [
         | yes h ↦ inr (_, _, many-links counted h)

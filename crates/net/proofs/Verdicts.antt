@@ -6,7 +6,7 @@ use mathlib.Core.Logic.{_≢_}
 use native.Mathlib.Decide.{ℕ-discrete}
 use borrow.Author.Tests.{eq-eqb, ne-eqb}
 use Rattle.net.specs.Refusals.{accepted}
-use Rattle.net.specs.Check.{verdict, orElse, refusedIf}
+use Rattle.net.specs.Check.{verdict, orElse, firstNumber, refusedIf}
 use Rattle.net.specs.declared.check.Verdict.{Verdict}
 
 module _ (first second : Verdict) where
@@ -31,6 +31,23 @@ module _ (first second : Verdict) where
   -- and only if the second is
   pub second-accepted : orElse first second .number ≡ accepted → second .number ≡ accepted
   second-accepted e = sym (ap (λ (v : Verdict). v .number) (or-else-second (first-accepted e))) ∙ e
+
+-- the same of refusals by their numbers alone
+module _ (first second : ℕ) where
+  pub number-second : first ≡ accepted → firstNumber first second ≡ second
+  unfolding firstNumber
+  number-second e = simp (eq-eqb first accepted e)
+
+  pub number-first : first ≢ accepted → firstNumber first second ≡ first
+  unfolding firstNumber
+  number-first n = simp (ne-eqb first accepted n)
+
+  pub number-accepted : firstNumber first second ≡ accepted → (first ≡ accepted) × (second ≡ accepted)
+  number-accepted e =
+      elim (ℕ-discrete first accepted) [
+        | yes q ↦ (q, sym (number-second q) ∙ e)
+        | no n ↦ absurd (n (sym (number-first n) ∙ e))
+      ]
 
 pub not-refused : {test : Bool} (number : ℕ) → test ≡ false → refusedIf test number ≡ verdict accepted
 unfolding refusedIf

@@ -1,6 +1,9 @@
+pub mod Choice
 pub mod Limits
 pub mod Refusals
 pub mod Rows
 pub mod Entry
+pub mod Failure
 pub mod Check
 pub mod Refused
+pub mod inner

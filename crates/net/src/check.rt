@@ -2,7 +2,8 @@
 ghost use mathlib.Core.Path.{_≡_};
 ghost use Prim.Native.Nat.{_<_};
 ghost use lib.ListN.{length, getD};
-ghost use Rattle.net.specs.Check.{comesAfter, badEnds, badWeight, outOfOrder, linkFault, checkNetwork};
+ghost use Rattle.net.specs.Check.{comesAfter, badEnds, badWeight, badNodeCount, linkFault, verdict, checkNetwork};
+ghost use Rattle.net.specs.Check.{outOfOrder};
 use crate::limit;
 use crate::refusal;
 
@@ -10,6 +11,16 @@ use crate::refusal;
 pub struct Verdict {
     pub number: u8,
     pub place: usize,
+}
+
+// A refusal that names no place; 0 where nothing is refused.
+pub fn unplaced(number: u8) -> Verdict
+    ensures { λ r. ⌜ r ≡ verdict number ⌝ }
+{
+    Verdict {
+        number: number,
+        place: 0,
+    }
 }
 
 // Whether a link comes after the one before it, low end first and then high end.
@@ -47,6 +58,15 @@ fn bad_ends(n: usize, low: usize, high: usize) -> bool
     n <= high
 }
 
+pub fn bad_node_count(n: usize) -> bool
+    ensures { λ r. ⌜ r ≡ badNodeCount n ⌝ }
+{
+    if n == 0 {
+        return true;
+    }
+    limit::NODES < n
+}
+
 pub fn bad_weight(weight: u32) -> bool
     ensures { λ r. ⌜ r ≡ badWeight weight ⌝ }
 {
@@ -74,7 +94,8 @@ fn out_of_order(low: &[u8], high: &[u8], k: usize) -> bool
 // The first fault of link k, or 0.
 fn link_fault(n: usize, low: &[u8], high: &[u8], weight: &[u32], k: usize) -> u8
     requires { ⌜ k < length (now weight) ⌝ }
-    ensures { λ r. ⌜ r ≡ linkFault n (now (low .entry)) (now (high .entry)) (now (weight .entry)) k ⌝ }
+    ensures { λ r. ⌜ r ≡ linkFault
+        (record { nodes = n; low = now (low .entry); high = now (high .entry); weight = now (weight .entry) }) k ⌝ }
 {
     if bad_ends(n, end_at(low, k), end_at(high, k)) {
         return refusal::LINK_ENDS;
@@ -89,43 +110,26 @@ fn link_fault(n: usize, low: &[u8], high: &[u8], weight: &[u32], k: usize) -> u8
 }
 
 pub fn check_network(n: usize, low: &[u8], high: &[u8], weight: &[u32]) -> Verdict
-    ensures { λ r. ⌜ r ≡ checkNetwork n (now (low .entry)) (now (high .entry)) (now (weight .entry)) ⌝ }
+    ensures { λ r. ⌜ r ≡ checkNetwork
+        (record { nodes = n; low = now (low .entry); high = now (high .entry); weight = now (weight .entry) }) ⌝ }
 {
     let links = low.len();
     if high.len() != links {
-        return Verdict {
-            number: refusal::ROW_LENGTHS,
-            place: 0,
-        };
+        return unplaced(refusal::ROW_LENGTHS);
     }
     if weight.len() != links {
-        return Verdict {
-            number: refusal::ROW_LENGTHS,
-            place: 0,
-        };
+        return unplaced(refusal::ROW_LENGTHS);
     }
-    if n == 0 {
-        return Verdict {
-            number: refusal::NODE_COUNT,
-            place: 0,
-        };
-    }
-    if limit::NODES < n {
-        return Verdict {
-            number: refusal::NODE_COUNT,
-            place: 0,
-        };
+    if bad_node_count(n) {
+        return unplaced(refusal::NODE_COUNT);
     }
     if limit::LINKS < links {
-        return Verdict {
-            number: refusal::LINK_COUNT,
-            place: 0,
-        };
+        return unplaced(refusal::LINK_COUNT);
     }
     let mut k = 0;
     while k < links {
         let fault = link_fault(n, low, high, weight, k);
-        if fault != 0 {
+        if fault != refusal::NONE {
             return Verdict {
                 number: fault,
                 place: k,
@@ -133,8 +137,5 @@ pub fn check_network(n: usize, low: &[u8], high: &[u8], weight: &[u32]) -> Verdi
         }
         k += 1;
     }
-    Verdict {
-        number: refusal::NONE,
-        place: 0,
-    }
+    unplaced(refusal::NONE)
 }

@@ -2,20 +2,28 @@
 // on a network makes first. A network in memory is its node count and three lent rows: low ends, high ends, weights.
 mod check;
 pub mod entry;
+mod failure;
 mod interface;
 pub mod limit;
 pub mod refusal;
 
 pub use check::Verdict;
+pub use check::bad_node_count;
+pub use check::bad_weight;
 pub use check::check_network;
 pub use check::comes_after;
 pub use check::end_at;
-pub use interface::Failure;
+pub use check::unplaced;
+pub use failure::Failure;
+pub use failure::blocked;
+pub use failure::fails;
+pub use failure::failure_number;
 pub use interface::Interface;
 pub use interface::Link;
 pub use interface::Node;
 pub use interface::head_of;
 pub use interface::link_of;
+pub use interface::reverse_of;
 pub use interface::tail_of;
 
 // The network that a reader's answer holds: the rows' places past the last link are 0.

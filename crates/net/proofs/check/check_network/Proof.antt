@@ -1,54 +1,93 @@
 -- `check_network` meets `checkNetwork`: the tests before the loop in the order of the definition, and the loop against `linksFrom`,
 -- with the invariant that the whole answer is the answer from link k on.
-use Prim.Native.Nat.{_≤_, _-_}
+use Prim.Native.Nat.{ℕ, _≤_, _-_}
+use mathlib.Core.Bool.{false}
 use mathlib.Core.Path.{_≡_, refl, sym, _∙_}
 use native.Mathlib.Omega.{arith}
 use borrow.Author.Needs.{needs}
-use borrow.Author.Tests.{lt-ltb, le-ltb, eq-eqb, ne-eqb}
 use lib.ListN.{length}
-use Rattle.net.specs.Check.{checkNetwork, linksFrom}
-use Rattle.net.proofs.Faults.{links-done, links-on, links-left, high-differs, weight-differs, no-nodes, many-nodes, many-links, links-begin}
+use Rattle.net.specs.Rows.{Rows}
+use Rattle.net.specs.Check.{badNodeCount, checkNetwork, linksFrom}
+use Rattle.net.proofs.Faults.{links-done, links-on, links-left, high-differs, weight-differs, many-nodes, many-links, links-begin}
 use Rattle.net.proofs.check.check_network.Statement.{statement}
 use Rattle.net.proofs.check.check_network.Tie as tie
 
+-- the links below k have passed
+record From (R : Rows) (links k : ℕ) : Type 0 where
+  all : links ≡ length (R .low)
+  passed : k ≤ links
+  weights : length (R .weight) ≡ links
+  rest : checkNetwork R ≡ linksFrom (links - k) R k
+
 abbrev Inv-loop : tie.InvT-loop
-Inv-loop n low high weight links k₀ k =
-    (links ≡ length low) × (k ≤ links) × (length weight ≡ links)
-    × (checkNetwork n low high weight ≡ linksFrom (links - k) n low high weight k)
+Inv-loop n low high weight links k₀ k = From (record { nodes = n; low = low; high = high; weight = weight }) links k
 
 abbrev μ-loop : tie.MeasureT-loop
 μ-loop n low high weight links k₀ k = links - k
 
+-- where the node count has been looked at, the rows have one length
+abbrev Counted : Type 0
+Counted = tie.After-bad-node-count Inv-loop μ-loop
+
+same-high : (c : Counted) → let a = c .before .before .before .before .before .before .args in length (a .high .now) ≡ length (a .low .now)
+same-high c = c .before .before .if1 .left
+
+same-weight : (c : Counted) → let a = c .before .before .before .before .before .before .args in length (a .weight .now) ≡ length (a .low .now)
+same-weight c = c .before .if2 .left
+
+few-nodes : (c : Counted) → c .bad-node-count .result ≡ false → badNodeCount (c .before .before .before .before .before .before .args .n) ≡ false
+few-nodes c e = sym (c .bad-node-count .ensures) ∙ e
+
+unplaced-requires : tie.Need-unplaced-requires Inv-loop μ-loop
+unplaced-requires c κs = search needs
+
 returns : tie.Need-returns Inv-loop μ-loop
-returns c = sym (high-differs _ _ _ _ (c .if1 .taken))
+returns c = c .unplaced .ensures ∙ sym (high-differs _ (c .before .if1 .taken))
+
+unplaced-requires-2 : tie.Need-unplaced-requires-2 Inv-loop μ-loop
+unplaced-requires-2 c κs = search needs
 
 returns-2 : tie.Need-returns-2 Inv-loop μ-loop
-returns-2 c = sym (weight-differs _ _ _ _ (c .before .if1 .left) (c .if2 .taken))
+returns-2 c = c .unplaced2 .ensures ∙ sym (weight-differs _ (c .before .before .if1 .left) (c .before .if2 .taken))
+
+bad-node-count-requires : tie.Need-bad-node-count-requires Inv-loop μ-loop
+bad-node-count-requires c κs = search needs
+
+unplaced-requires-3 : tie.Need-unplaced-requires-3 Inv-loop μ-loop
+unplaced-requires-3 c κs = search needs
 
 returns-3 : tie.Need-returns-3 Inv-loop μ-loop
-returns-3 c = sym (no-nodes _ _ _ _ (c .before .before .if1 .left) (c .before .if2 .left) (c .if3 .taken))
+returns-3 c =
+    let counted = c .before .before in
+    c .unplaced3 .ensures
+    ∙ sym (many-nodes _ (same-high counted) (same-weight counted) (sym (counted .bad-node-count .ensures) ∙ c .before .if3 .taken))
+
+unplaced-requires-4 : tie.Need-unplaced-requires-4 Inv-loop μ-loop
+unplaced-requires-4 c κs = search needs
 
 returns-4 : tie.Need-returns-4 Inv-loop μ-loop
-returns-4 c = sym (many-nodes _ _ _ _ (c .before .before .before .if1 .left) (c .before .before .if2 .left) (c .before .if3 .left) (c .if4 .taken))
-
-returns-5 : tie.Need-returns-5 Inv-loop μ-loop
-returns-5 c = sym (many-links _ _ _ _ (c .before .before .before .before .if1 .left) (c .before .before .before .if2 .left) (c .before .before .if3 .left) (c .before .if4 .left) (c .if5 .taken))
+returns-4 c =
+    let counted = c .before .before .before in
+    c .unplaced4 .ensures
+    ∙ sym (many-links _ (same-high counted) (same-weight counted) (few-nodes counted (c .before .before .if3 .left)) (c .before .if4 .taken))
 
 loop-holds : tie.Need-loop-holds Inv-loop μ-loop
-loop-holds c = (
-  refl,
-  search needs,
-  c .before .before .before .if2 .left,
-  links-begin _ _ _ _ (c .before .before .before .before .if1 .left) (c .before .before .before .if2 .left) (c .before .before .if3 .left) (c .before .if4 .left) (c .if5 .left),
-)
+loop-holds c =
+    let counted = c .before .before in
+    record {
+      all = refl;
+      passed = search needs;
+      weights = same-weight counted;
+      rest = links-begin _ (same-high counted) (same-weight counted) (few-nodes counted (c .before .if3 .left)) (c .if4 .left);
+    }
 
 link-fault-requires : tie.Need-link-fault-requires Inv-loop μ-loop
 link-fault-requires c κs = omega arith
 
-returns-6 : tie.Need-returns-6 Inv-loop μ-loop
-returns-6 c =
+returns-5 : tie.Need-returns-5 Inv-loop μ-loop
+returns-5 c =
     let at = c .before .before .before .loop in
-    sym (at .inv .3 ∙ links-left _ _ _ _ _ (at .k) _ (c .before .before .loop-test .taken) (sym (c .before .link-fault .ensures)) (c .if6 .taken))
+    sym (at .inv .rest ∙ links-left _ _ (at .k) _ (c .before .before .loop-test .taken) (sym (c .before .link-fault .ensures)) (c .if5 .taken))
 
 add-k : tie.Need-add-k Inv-loop μ-loop
 add-k c = omega arith
@@ -58,15 +97,23 @@ loop-less c = omega arith
 
 loop-again : tie.Need-loop-again Inv-loop μ-loop
 loop-again c =
-    let at = c .before .before .before .loop in (
-      at .inv .0,
-      search needs,
-      at .inv .2,
-      at .inv .3 ∙ links-on _ _ _ _ _ (at .k) (c .before .before .loop-test .taken) (sym (c .before .link-fault .ensures) ∙ c .if6 .left),
-    )
+    let at = c .before .before .before .loop in
+    record {
+      all = at .inv .all;
+      passed = search needs;
+      weights = at .inv .weights;
+      rest =
+          at .inv .rest
+          ∙ links-on _ _ (at .k) (c .before .before .loop-test .taken) (sym (c .before .link-fault .ensures) ∙ c .if5 .left);
+    }
 
-returns-7 : tie.Need-returns-7 Inv-loop μ-loop
-returns-7 c = sym (c .before .loop .inv .3 ∙ links-done _ _ _ _ _ (c .before .loop .k) (c .loop-test .left))
+unplaced-requires-5 : tie.Need-unplaced-requires-5 Inv-loop μ-loop
+unplaced-requires-5 c κs = search needs
+
+returns-6 : tie.Need-returns-6 Inv-loop μ-loop
+returns-6 c =
+    let at = c .before .before .loop in
+    c .unplaced5 .ensures ∙ sym (at .inv .rest ∙ links-done _ _ (at .k) (c .before .loop-test .left))
 
 pub check-network-spec : {M : Type 1} → statement M
 check-network-spec =
@@ -74,15 +121,20 @@ check-network-spec =
     (tie.spec
     Inv-loop
     μ-loop
+    unplaced-requires
     returns
+    unplaced-requires-2
     returns-2
+    bad-node-count-requires
+    unplaced-requires-3
     returns-3
+    unplaced-requires-4
     returns-4
-    returns-5
     loop-holds
     link-fault-requires
-    returns-6
+    returns-5
     add-k
     loop-less
     loop-again
-    returns-7)
+    unplaced-requires-5
+    returns-6)

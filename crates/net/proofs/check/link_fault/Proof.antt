@@ -15,13 +15,13 @@ bad-ends-requires : tie.Need-bad-ends-requires
 bad-ends-requires c κs = search needs
 
 returns : tie.Need-returns
-returns c = sym (fault-ends _ _ _ _ _ (cc))
+returns c = sym (fault-ends _ _ (cc))
 
 out-of-order-requires : tie.Need-out-of-order-requires
 out-of-order-requires c κs = search needs
 
 returns-2 : tie.Need-returns-2
-returns-2 c = sym (fault-order _ _ _ _ _ (cc) (cc))
+returns-2 c = sym (fault-order _ _ (cc) (cc))
 
 mul-bad-weight : tie.Need-mul-bad-weight
 mul-bad-weight c = search needs
@@ -33,10 +33,10 @@ bad-weight-requires : tie.Need-bad-weight-requires
 bad-weight-requires c κs = search needs
 
 returns-3 : tie.Need-returns-3
-returns-3 c = sym (fault-weight _ _ _ _ _ (cc) (cc) (cc))
+returns-3 c = sym (fault-weight _ _ (cc) (cc) (cc))
 
 returns-4 : tie.Need-returns-4
-returns-4 c = sym (fault-none _ _ _ _ _ (cc) (cc) (cc))
+returns-4 c = sym (fault-none _ _ (cc) (cc) (cc))
 
 pub link-fault-spec : {M : Type 1} → statement M
 link-fault-spec =

@@ -32,7 +32,8 @@ comes-after-requires c κs = search needs
 returns-2 : tie.Need-returns-2
 unfolding outOfOrder
 returns-2 c =
-    let h : 0 < c .before .before .before .before .before .before .before .before .args .k = omega (arith, c .before .before .before .before .before .if1 .left) in
+    let h : 0 < c .before .before .before .before .before .before .before .before .args .k =
+    omega (arith, c .before .before .before .before .before .if1 .left) in
     rw (
       lt-ltb _ _ h,
       ← c .before .before .before .before .end-at .ensures,

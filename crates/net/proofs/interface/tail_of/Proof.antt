@@ -12,7 +12,9 @@ end-at-requires : tie.Need-end-at-requires
 end-at-requires c κs = search needs
 
 returns : tie.Need-returns
-returns c = c .end-at .ensures ∙ even-row (c .before .before .before .before .before .before .args .low .now) (c .before .before .before .before .before .before .args .high .now) (c .before .before .before .before .before .before .args .i .0) _ (c .before .link-of .ensures) (c .before .before .if1 .taken)
+returns c =
+    let a = c .before .before .before .before .before .before .args in
+    c .end-at .ensures ∙ even-row (a .low .now) (a .high .now) (a .i .0) _ (c .before .link-of .ensures) (c .before .before .if1 .taken)
 
 link-of-requires-2 : tie.Need-link-of-requires-2
 link-of-requires-2 c κs = search needs
@@ -21,7 +23,9 @@ end-at-requires-2 : tie.Need-end-at-requires-2
 end-at-requires-2 c κs = search needs
 
 returns-2 : tie.Need-returns-2
-returns-2 c = c .end-at2 .ensures ∙ odd-row (c .before .before .before .before .before .before .args .low .now) (c .before .before .before .before .before .before .args .high .now) (c .before .before .before .before .before .before .args .i .0) _ (c .before .link-of2 .ensures) (c .before .before .if1 .left)
+returns-2 c =
+    let a = c .before .before .before .before .before .before .args in
+    c .end-at2 .ensures ∙ odd-row (a .low .now) (a .high .now) (a .i .0) _ (c .before .link-of2 .ensures) (c .before .before .if1 .left)
 
 pub tail-of-spec : {M : Type 1} → statement M
 tail-of-spec =
