@@ -1,47 +1,53 @@
 -- What the writer answers and leaves in the room, by its tests: a network that is refused, a room that is too short, a plan that is
 -- written.
 use Prim.Native.Nat.{ℕ, _≤_, _<_}
-use mathlib.Core.Path.{_≡_}
+use mathlib.Core.Path.{_≡_, ap, _∙_}
 use mathlib.Core.Logic.{_≢_}
 use mathlib.Core.List.{List}
 use native.Mathlib.Omega.{arith}
-use borrow.Author.Tests.{lt-ltb, le-ltb, eq-eqb, ne-eqb}
+use borrow.Author.Tests.{lt-ltb, le-ltb, ne-eqb}
 use lib.ListN.{length}
-use Rattle.net.specs.Refusals.{accepted, room as too-short}
-use Rattle.net.specs.Check.{checkNetwork}
+use Rattle.net.specs.Refusals.{accepted, room}
+use Rattle.net.specs.Rows.{Rows}
+use Rattle.net.specs.Check.{checkNetwork, verdict, Accepted}
+use Rattle.net.specs.inner.Overwritten.{overwritten}
+use Rattle.net.specs.declared.check.Verdict.{Verdict}
+use Rattle.net.proofs.Accepted.{accepts-check}
+use Rattle.net.proofs.Overwrite.{over-start}
+use Rattle.net.proofs.Verdicts.{or-else-first, or-else-second, is-refused, not-refused}
 use Rattle.plan.specs.Plan.{planOf}
-use Rattle.plan.specs.Writer.{overwritten, writeAfter, writePlan, roomAfter}
-use Rattle.plan.proofs.Overwrite.{over-start}
+use Rattle.plan.specs.Writer.{writeVerdict, unwritten, written, writePlan, roomAfter}
+use Rattle.plan.specs.declared.writer.Written.{Written}
 
-module _ (n : ℕ) (low high weight space : List ℕ) where
-  -- the room is touched only where the writer accepts
-  room-untouched : writePlan n low high weight space .number ≢ accepted → roomAfter n low high weight space ≡ space
-  unfolding roomAfter
-  room-untouched h = simp (ne-eqb (writePlan n low high weight space .number) accepted h)
+module _ (R : Rows) (space : List ℕ) where
+  -- an answer, and the room at exit, as the contract says them
+  abbrev pub Writes : Written → List ℕ → Type 0
+  Writes answer after = (answer ≡ writePlan R space) × (after ≡ roomAfter R space)
 
-  module _ (h : checkNetwork n low high weight .number ≢ accepted) where
-    pub refused-network : writePlan n low high weight space
-        ≡ record { number = checkNetwork n low high weight .number; place = checkNetwork n low high weight .place; count = 0 }
-    unfolding writePlan writeAfter
-    refused-network = simp (ne-eqb (checkNetwork n low high weight .number) accepted h)
+  -- whichever refusal is the first, the room is left as it was
+  refuses : (first : Verdict) → writeVerdict R space ≡ first → first .number ≢ accepted → Writes (unwritten first) space
+  unfolding writePlan roomAfter
+  refuses first e refused =
+      let test = ne-eqb (first .number) accepted refused in
+      (rw (e, test), rw (e, test))
 
-    pub refused-network-room : roomAfter n low high weight space ≡ space
-    refused-network-room = room-untouched (rw refused-network h)
+  pub network-refused : checkNetwork R .number ≢ accepted → Writes (unwritten (checkNetwork R)) space
+  unfolding writeVerdict
+  network-refused refused = refuses (checkNetwork R) (or-else-first _ _ refused) refused
 
-  module _ (network : checkNetwork n low high weight .number ≡ accepted) where
-    module _ (h : length space < length (planOf n low high weight)) where
-      pub refused-room : writePlan n low high weight space ≡ record { number = too-short; place = 0; count = 0 }
-      unfolding writePlan writeAfter
-      refused-room = simp (eq-eqb (checkNetwork n low high weight .number) accepted network, lt-ltb (length space) (length (planOf n low high weight)) h)
+  module _ (network : Accepted R) where
+    checked : checkNetwork R .number ≡ accepted
+    checked = ap (λ (answer : Verdict). answer .number) (accepts-check R network)
 
-      pub refused-room-room : roomAfter n low high weight space ≡ space
-      refused-room-room = room-untouched (rw refused-room (λ e. omega arith))
+    pub room-short : length space < length (planOf R) → Writes (unwritten (verdict room)) space
+    unfolding writeVerdict
+    room-short short = refuses (verdict room) (or-else-second _ _ checked ∙ is-refused room (lt-ltb _ _ short)) (λ e. omega arith)
 
-    module _ (h : length (planOf n low high weight) ≤ length space) where
-      pub written : writePlan n low high weight space ≡ record { number = accepted; place = 0; count = length (planOf n low high weight) }
-      unfolding writePlan writeAfter
-      written = simp (eq-eqb (checkNetwork n low high weight .number) accepted network, le-ltb (length space) (length (planOf n low high weight)) h)
+    module _ (enough : length (planOf R) ≤ length space) where
+      passes : writeVerdict R space ≡ verdict accepted
+      unfolding writeVerdict
+      passes = or-else-second _ _ checked ∙ not-refused room (le-ltb _ _ enough)
 
-      pub written-room : roomAfter n low high weight space ≡ overwritten space 0 (planOf n low high weight)
-      unfolding roomAfter
-      written-room = rw (written, over-start)
+      pub plan-written : Writes (written (length (planOf R))) (overwritten space 0 (planOf R))
+      unfolding writePlan roomAfter
+      plan-written = (rw passes, rw passes (over-start space (planOf R)))

@@ -1,18 +1,9 @@
 -- Each public entry's contract determines its answer, and the writer's also what it leaves in the room: two that it allows for the same
 -- inputs are equal. Each contract says what they are, so this is one argument for all of them. The reader changes nothing.
-use mathlib.Core.Path.{_≡_}
-use mathlib.Core.List.{List}
-use Prim.Native.Nat.{ℕ}
 use denote.Ref.{now}
-use Rattle.net.proofs.Determined.{Determined, agree}
+use Rattle.net.proofs.Determined.{Determined, Leaves, agree}
 use Rattle.plan.proofs.reader.read_plan.Reads as read-plan-contract
 use Rattle.plan.proofs.writer.write_plan.Reads as write-plan-contract
-
--- As `Determined`, of the bytes at exit.
-abbrev pub Leaves {ℓ ℓ′ κ κ′} : {Lifetimes : Type ℓ} {Inputs : Lifetimes → Type ℓ′} {Answer : Lifetimes → Type κ} {Exit : Lifetimes → Type κ′}
-    → ((a : Lifetimes) → Inputs a → Answer a → Exit a → Type 0) → ((a : Lifetimes) → Exit a → List ℕ) → Type (ℓ ⊔ ℓ′ ⊔ κ ⊔ κ′)
-Leaves {Lifetimes} {Inputs} {Answer} {Exit} Allows bytes =
-    (a : Lifetimes) (inputs : Inputs a) (x y : Answer a) (e f : Exit a) → Allows a inputs x e → Allows a inputs y f → bytes a e ≡ bytes a f
 
 pub read-plan : Determined read-plan-contract.Learnt
 read-plan a inputs x y e f p q = agree p q

@@ -8,118 +8,112 @@ use mathlib.Core.Logic.{_⊎_, inl, inr, _≢_, _↔_}
 use mathlib.Core.List.{List, [], _∷_, _++_, append-assoc, append-nil}
 use native.Mathlib.Decide.{ℕ-discrete, decLt}
 use native.Mathlib.Omega.{arith}
-use borrow.Author.Tests.{lt-ltb, eq-eqb, ne-eqb}
 use lib.ListN.{length, length-append}
 use Rattle.net.specs.Limits.{mostNodes, mostLinks, mostWeight}
 use Rattle.net.specs.Refusals.{accepted, linkEnds, linkOrder, linkWeight, bytesLeft}
-use Rattle.net.specs.Check.{Joins, Accepted, badNodeCount}
+use Rattle.net.specs.Rows.{Rows}
+use Rattle.net.specs.Check.{Joins, Accepted}
 use Rattle.plan.specs.declared.number.Number.the-variants.{Refused as NoNumber}
 use Rattle.plan.specs.declared.reader.Reading.{Reading}
 use Rattle.plan.specs.Number.{mostStored, stored, numberAt}
-use Rattle.plan.specs.Plan.{linkBytes, linksBytes, planOf}
-use Rattle.plan.specs.Reader.{refusal, takeLinkCount, linkCountAt, takeNodeCount, readPlan}
-use Rattle.plan.specs.Fault.{Bytes, Follows, Passed, passedBytes, Due, Fault, acceptance, IsPlan}
+use Rattle.plan.specs.Plan.{linkBytes, linksBytes, planStart, planOf}
+use Rattle.plan.specs.Reader.{refusal, readPlan}
+use Rattle.plan.specs.Fault.{Bytes, Passed, LinkDue, Follows, EndsPass, Due, Fault, acceptance, IsPlan}
 use Rattle.plan.proofs.Stored.{Begins, begins, short-refuses, malformed-refuses, bytes-after, some-length, some-group}
-use Rattle.plan.proofs.Passing.{passes-more, bytes-more}
-use Rattle.plan.proofs.Reached.{number-in, cut-after, nodes-pass, bytes-remain, all-read, reaches-end, link-refused, at-difference, reaches-difference, at-weight, reaches-weight}
-use Rattle.plan.proofs.Reached.{weight-refused, weight-bad, difference-refused, high-bad, order-bad, low-refused, low-bad, holds, fails, decided-false, follows-decided}
+use Rattle.plan.proofs.LinkPasses.{passes-more, bytes-more}
+use Rattle.plan.proofs.Reached.{number-in, cut-after, nodes-pass, reaches-end, link-refused, lastLow, lastHigh}
+use Rattle.plan.proofs.Reached.{at-difference, reaches-difference, at-weight, reaches-weight}
+use Rattle.plan.proofs.Reached.{follows-decided}
+use Rattle.plan.proofs.Tests.{bad-node-count, bad-weight, holds, fails, decided-false}
+use Rattle.plan.proofs.Readings as laws
 
 -- a number that is due and refused ends the reading
 due-refuses : {passed : List ℕ} → Due passed → (s rest : List ℕ) (number place : ℕ) → s ≡ passed ++ rest
     → numberAt s (length passed) ≡ NoNumber number place → readPlan s ≡ refusal number place
-unfolding readPlan takeNodeCount linkCountAt takeLinkCount
-due-refuses Due.for-nodes s rest number place cut e = rw e
-due-refuses (Due.for-links some few) s rest number place cut e = nodes-pass s rest _ some few cut ∙ rw e
-due-refuses (Due.for-low passed due) s rest number place cut e =
-    link-refused passed due s rest number place cut (low-refused s _ _ _ _ number place e)
-due-refuses (Due.for-difference {n} {m} {l} {low} {high} {weight} passed due node) s rest number place cut e =
-    let whole : s ≡ passedBytes n m low high weight ++ (stored l ++ rest) = simp append-assoc at cut in
-    link-refused passed due s (stored l ++ rest) number place whole
-    (reaches-difference passed due s l rest node whole ∙ difference-refused s _ _ _ _ _ _ number place e)
-due-refuses (Due.for-weight {n} {m} {l} {e = difference} {low} {high} {weight} passed due some node follows) s rest number place cut e =
-    let whole : s ≡ passedBytes n m low high weight ++ (stored l ++ (stored difference ++ rest)) = simp append-assoc at cut in
-    link-refused passed due s (stored l ++ (stored difference ++ rest)) number place whole
-    (reaches-weight passed due s l difference rest some node follows whole ∙ weight-refused s _ _ _ number place e)
+due-refuses Due.for-nodes s rest number place cut e = laws.node-count-unread s refl number place e
+due-refuses (Due.for-links {n} some few) s rest number place cut e =
+    nodes-pass s rest _ some few cut ∙ laws.link-count-unread s n _ refl number place e
+due-refuses (Due.for-low {R} due) s rest number place cut e =
+    link-refused due s rest number place cut (laws.low-unread s (R .nodes) _ (lastLow R) (lastHigh R) refl number place e)
+due-refuses (Due.for-difference {m} {low} {R} due node) s rest number place cut e =
+    let whole : s ≡ planStart m R ++ (stored low ++ rest) = simp append-assoc at cut in
+    link-refused due s (stored low ++ rest) number place whole
+    (reaches-difference due s low rest node whole ∙ laws.difference-unread s (R .nodes) _ _ low _ _ refl number place e)
+due-refuses (Due.for-weight {m} {low} {difference} {R} due pass) s rest number place cut e =
+    let whole : s ≡ planStart m R ++ (stored low ++ (stored difference ++ rest)) = simp append-assoc at cut in
+    link-refused due s (stored low ++ (stored difference ++ rest)) number place whole
+    (reaches-weight due s low difference rest pass whole ∙ laws.weight-unread s _ low (low + difference) refl number place e)
+
+-- An accepted network's plan has passed whole.
+accepted-passed : {R : Rows} → Accepted R → Passed (length (R .low)) R
+accepted-passed network = record { network = network; few-links = network .few-links; within = omega arith }
 
 pub fault-reads : {s : List ℕ} {number place : ℕ} → Fault s number place → readPlan s ≡ refusal number place
-unfolding readPlan takeNodeCount badNodeCount linkCountAt takeLinkCount
+unfolding planOf
 fault-reads (Fault.ends {passed} rest due unended few) =
     due-refuses due _ rest _ _ refl (short-refuses passed unended few)
 fault-reads (Fault.malformed {passed} rest due form) = due-refuses due _ _ _ _ refl (malformed-refuses passed rest form)
 fault-reads (Fault.nodes {v} rest fits bad) =
-    rw (number-in (stored v ++ rest) [] rest v fits refl)
-    (elim (ℕ-discrete v 0) [
-      | yes none ↦ simp (eq-eqb v 0 none)
-      | no some ↦
-          let many : mostNodes < v = elim bad [ inl none ↦ absurd (some none) | inr many ↦ many ] in
-          simp (ne-eqb v 0 some, lt-ltb mostNodes v many)
-    ])
+    let s = stored v ++ rest in
+    laws.node-count-refused s refl v _ (number-in s [] rest v fits refl) (bad-node-count bad)
 fault-reads (Fault.links {n} {v} rest some few fits many) =
     let s = stored n ++ (stored v ++ rest) in
-    nodes-pass s (stored v ++ rest) n some few refl ∙ rw (number-in s (stored n) rest v fits refl) (simp (lt-ltb mostLinks v many))
-fault-reads (Fault.low-end {n} {m} {v} {low} {high} {weight} rest passed due fits over) =
-    let before = passedBytes n m low high weight in
+    nodes-pass s (stored v ++ rest) n some few refl
+    ∙ laws.link-count-refused s n _ refl v _ (number-in s (stored n) rest v fits refl) many
+fault-reads (Fault.low-end {m} {v} {R} rest due fits over) =
+    let before = planStart m R in
     let s = before ++ (stored v ++ rest) in
-    link-refused passed due s (stored v ++ rest) linkEnds (length before) refl (low-bad s n _ _ _ v _ (number-in s before rest v fits refl) over)
-fault-reads (Fault.high-end {n} {m} {l} {v} {low} {high} {weight} rest passed due node fits bad) =
-    let before = passedBytes n m low high weight in
-    let s = before ++ (stored l ++ (stored v ++ rest)) in
-    let here = at-difference passed due s l (stored v ++ rest) node refl in
-    link-refused passed due s (stored l ++ (stored v ++ rest)) linkEnds (length (before ++ stored l)) refl
-    (reaches-difference passed due s l (stored v ++ rest) node refl
-    ∙ high-bad s n _ _ l _ _ v _ (number-in s (before ++ stored l) rest v fits here) bad)
-fault-reads (Fault.order {n} {m} {l} {e} {low} {high} {weight} rest passed due some node not-after) =
-    let before = passedBytes n m low high weight in
-    let s = before ++ (stored l ++ (stored e ++ rest)) in
-    let node-low : l < n = omega arith in
-    let here = at-difference passed due s l (stored e ++ rest) node-low refl in
-    let test = decided-false (follows-decided low high l (l + e) (omega arith)) not-after in
-    link-refused passed due s (stored l ++ (stored e ++ rest)) linkOrder (length before) refl
-    (reaches-difference passed due s l (stored e ++ rest) node-low refl
-    ∙ order-bad s n _ _ l _ _ e _ (number-in s (before ++ stored l) rest e (omega arith) here) some node test)
-fault-reads (Fault.weighs {n} {m} {l} {e} {v} {low} {high} {weight} rest passed due some node follows fits bad) =
-    let before = passedBytes n m low high weight in
-    let s = before ++ (stored l ++ (stored e ++ (stored v ++ rest))) in
-    let here = at-weight passed due s l e (stored v ++ rest) some node follows refl in
-    link-refused passed due s (stored l ++ (stored e ++ (stored v ++ rest))) linkWeight (length (before ++ (stored l ++ stored e))) refl
-    (reaches-weight passed due s l e (stored v ++ rest) some node follows refl
-    ∙ weight-bad s _ l (l + e) v _ (number-in s (before ++ (stored l ++ stored e)) rest v fits here) bad)
-fault-reads (Fault.bytes-left {n} {m} {low} {high} {weight} rest passed all some) =
-    reaches-end passed (passedBytes n m low high weight ++ rest) rest refl
-    ∙ bytes-remain _ n m _ _ _ (length low) _ _ _ all (simp length-append (omega (arith, some-length rest some)))
+    link-refused due s (stored v ++ rest) linkEnds (length before) refl
+    (laws.low-refused s (R .nodes) _ _ _ refl v _ (number-in s before rest v fits refl) over)
+fault-reads (Fault.high-end {m} {low} {v} {R} rest due node fits bad) =
+    let before = planStart m R in
+    let s = before ++ (stored low ++ (stored v ++ rest)) in
+    let here = at-difference due s low (stored v ++ rest) node refl in
+    link-refused due s (stored low ++ (stored v ++ rest)) linkEnds (length (before ++ stored low)) refl
+    (reaches-difference due s low (stored v ++ rest) node refl
+    ∙ laws.high-refused s (R .nodes) _ _ low _ _ refl v _ (number-in s (before ++ stored low) rest v fits here) bad)
+fault-reads (Fault.order {m} {low} {difference} {R} rest due some node not-after) =
+    let before = planStart m R in
+    let s = before ++ (stored low ++ (stored difference ++ rest)) in
+    let few = due .passed .network .few-nodes in
+    let node-low : low < R .nodes = omega arith in
+    let here = at-difference due s low (stored difference ++ rest) node-low refl in
+    let test = decided-false (follows-decided R low (low + difference) (omega arith)) not-after in
+    link-refused due s (stored low ++ (stored difference ++ rest)) linkOrder (length before) refl
+    (reaches-difference due s low (stored difference ++ rest) node-low refl
+    ∙ laws.order-refused s (R .nodes) _ _ low _ _ refl difference _
+    (number-in s (before ++ stored low) rest difference (omega arith) here) (λ none. omega arith) node test)
+fault-reads (Fault.weighs {m} {low} {difference} {v} {R} rest due pass fits bad) =
+    let before = planStart m R in
+    let s = before ++ (stored low ++ (stored difference ++ (stored v ++ rest))) in
+    let here = at-weight due s low difference (stored v ++ rest) pass refl in
+    link-refused due s (stored low ++ (stored difference ++ (stored v ++ rest))) linkWeight
+    (length (before ++ (stored low ++ stored difference))) refl
+    (reaches-weight due s low difference (stored v ++ rest) pass refl
+    ∙ laws.weight-refused s _ low (low + difference) refl v _
+    (number-in s (before ++ (stored low ++ stored difference)) rest v fits here) (bad-weight bad))
+fault-reads (Fault.bytes-left {R} rest network some) =
+    reaches-end (accepted-passed network) (planOf R ++ rest) rest refl
+    ∙ laws.bytes-left _ (length (R .low)) _ _ _ (length (R .low)) _ refl (simp length-append (omega (arith, some-length rest some)))
 
--- An accepted network's plan has passed whole.
-pub accepted-passed : {n : ℕ} {low high weight : List ℕ} → Accepted n low high weight → Passed n (length low) low high weight
-accepted-passed network =
-    record {
-      some-node = network .some-node;
-      few-nodes = network .few-nodes;
-      few-links = network .few-links;
-      within = omega arith;
-      high-row = network .high-row;
-      weight-row = network .weight-row;
-      joins = network .joins;
-      ascends = network .ascends;
-    }
-
-pub plan-reads : {n : ℕ} {low high weight : List ℕ} → Accepted n low high weight
-    → readPlan (planOf n low high weight) ≡ acceptance n low high weight
-unfolding planOf passedBytes
-plan-reads {n} {low} {high} {weight} network =
-    let s = planOf n low high weight in
-    reaches-end (accepted-passed network) s [] (sym (append-nil s)) ∙ all-read s n (length low) _ _ _ (length low) _ _ _ refl (omega arith)
+pub plan-reads : {R : Rows} → Accepted R → readPlan (planOf R) ≡ acceptance R
+unfolding planOf
+plan-reads {R} network =
+    let s = planOf R in
+    reaches-end (accepted-passed network) s [] (sym (append-nil s))
+    ∙ laws.all-read s (length (R .low)) _ _ _ (length (R .low)) _ refl (omega arith)
 
 -- the refusal numbers of the faults
-pub fault-number : {s : List ℕ} {number place : ℕ} → Fault s number place → (accepted < number) × (number ≤ bytesLeft)
+fault-number : {s : List ℕ} {number place : ℕ} → Fault s number place → (accepted < number) × (number ≤ bytesLeft)
 fault-number (Fault.ends rest due unended few) = omega arith
 fault-number (Fault.malformed rest due form) = omega arith
 fault-number (Fault.nodes rest fits bad) = omega arith
 fault-number (Fault.links rest some few fits many) = omega arith
-fault-number (Fault.low-end rest passed due fits over) = omega arith
-fault-number (Fault.high-end rest passed due node fits bad) = omega arith
-fault-number (Fault.order rest passed due some node not-after) = omega arith
-fault-number (Fault.weighs rest passed due some node follows fits bad) = omega arith
-fault-number (Fault.bytes-left rest passed all some) = omega arith
+fault-number (Fault.low-end rest due fits over) = omega arith
+fault-number (Fault.high-end rest due node fits bad) = omega arith
+fault-number (Fault.order rest due some node not-after) = omega arith
+fault-number (Fault.weighs rest due pass fits bad) = omega arith
+fault-number (Fault.bytes-left rest network some) = omega arith
 
 -- The bytes have a fault.
 pub record Faulty (s : List ℕ) : Type 0 where
@@ -147,106 +141,96 @@ next-number {passed} due s rest cut bytes goes-on =
     ]
 
 -- the last number of a link whose ends have passed
-weight-outcome : {n m : ℕ} {low high weight : List ℕ} (passed : Passed n m low high weight) → length low < m
-    → (l e : ℕ) → 0 < e → l + e < n → Follows low high l (l + e)
-    → (s rest : List ℕ) → s ≡ passedBytes n m low high weight ++ (stored l ++ (stored e ++ rest)) → Bytes rest
-    → ((w : ℕ) (more : List ℕ) → Joins n l (l + e) w → s ≡ passedBytes n m low high weight ++ (linkBytes l (l + e) w ++ more) → Bytes more → Outcome s)
+weight-outcome : {m : ℕ} {R : Rows} (due : LinkDue m R) (low difference : ℕ) → EndsPass R low difference
+    → (s rest : List ℕ) → s ≡ planStart m R ++ (stored low ++ (stored difference ++ rest)) → Bytes rest
+    → ((w : ℕ) (more : List ℕ) → Joins (R .nodes) low (low + difference) w
+    → s ≡ planStart m R ++ (linkBytes low (low + difference) w ++ more) → Bytes more → Outcome s)
     → Outcome s
 unfolding linkBytes
-weight-outcome {n} {m} {low} {high} {weight} passed due l e some node follows s rest cut bytes goes-on =
-    next-number (Due.for-weight passed due some node follows) s rest (simp append-assoc cut) bytes
+weight-outcome {m} {R} due low difference pass s rest cut bytes goes-on =
+    next-number (Due.for-weight due pass) s rest (simp append-assoc cut) bytes
     (λ w more fits at-weight bytes-left.
-    let whole : s ≡ passedBytes n m low high weight ++ (stored l ++ (stored e ++ (stored w ++ more))) = simp append-assoc at at-weight in
+    let whole : s ≡ planStart m R ++ (stored low ++ (stored difference ++ (stored w ++ more))) = simp append-assoc at at-weight in
     elim (ℕ-discrete w 0) [
-      | yes none ↦ faulty whole (Fault.weighs more passed due some node follows fits (inl none))
+      | yes none ↦ faulty whole (Fault.weighs more due pass fits (inl none))
       | no some-weight ↦
           elim (decLt mostWeight w) [
-            | yes heavy ↦ faulty whole (Fault.weighs more passed due some node follows fits (inr heavy))
+            | yes heavy ↦ faulty whole (Fault.weighs more due pass fits (inr heavy))
             | no light ↦
-                let difference : l + e - l ≡ e = omega arith in
-                goes-on w more (record { below = omega arith; node = node; weighs = omega arith; light = omega arith })
-                (rw difference (simp append-assoc whole)) bytes-left
+                let back : low + difference - low ≡ difference = omega arith in
+                let some = pass .some in
+                goes-on w more (record { below = omega arith; node = pass .node; weighs = omega arith; light = omega arith })
+                (rw back (simp append-assoc whole)) bytes-left
           ]
     ])
 
 -- one link that is due, and the outcome of all links that are
-link-outcome : {n m : ℕ} {low high weight : List ℕ} (passed : Passed n m low high weight) → length low < m
-    → (s rest : List ℕ) → s ≡ passedBytes n m low high weight ++ rest → Bytes rest
-    → ((l h w : ℕ) (more : List ℕ) → Joins n l h w → Follows low high l h
-    → s ≡ passedBytes n m low high weight ++ (linkBytes l h w ++ more) → Bytes more → Outcome s)
+link-outcome : {m : ℕ} {R : Rows} (due : LinkDue m R) (s rest : List ℕ) → s ≡ planStart m R ++ rest → Bytes rest
+    → ((l h w : ℕ) (more : List ℕ) → Joins (R .nodes) l h w → Follows R l h
+    → s ≡ planStart m R ++ (linkBytes l h w ++ more) → Bytes more → Outcome s)
     → Outcome s
-link-outcome {n} {m} {low} {high} {weight} passed due s rest cut bytes goes-on =
-    next-number (Due.for-low passed due) s rest cut bytes
+link-outcome {m} {R} due s rest cut bytes goes-on =
+    next-number (Due.for-low due) s rest cut bytes
     (λ l after-low low-fits at-low bytes-low.
-    elim (decLt l n) [
-      | no over ↦ faulty at-low (Fault.low-end after-low passed due low-fits (omega arith))
+    elim (decLt l (R .nodes)) [
+      | no over ↦ faulty at-low (Fault.low-end after-low due low-fits (omega arith))
       | yes node ↦
-          next-number (Due.for-difference passed due node) s after-low (simp append-assoc at-low) bytes-low
+          next-number (Due.for-difference due node) s after-low (simp append-assoc at-low) bytes-low
           (λ e after-difference fits at-difference bytes-difference.
-          let ends : s ≡ passedBytes n m low high weight ++ (stored l ++ (stored e ++ after-difference)) = simp append-assoc at at-difference in
+          let ends : s ≡ planStart m R ++ (stored l ++ (stored e ++ after-difference)) = simp append-assoc at at-difference in
           elim (ℕ-discrete e 0) [
-            | yes none ↦ faulty ends (Fault.high-end after-difference passed due node fits (inl none))
+            | yes none ↦ faulty ends (Fault.high-end after-difference due node fits (inl none))
             | no some ↦
-                elim (decLt (l + e) n) [
-                  | no over ↦ faulty ends (Fault.high-end after-difference passed due node fits (inr (omega arith)))
+                elim (decLt (l + e) (R .nodes)) [
+                  | no over ↦ faulty ends (Fault.high-end after-difference due node fits (inr (omega arith)))
                   | yes high-node ↦
-                      elim (follows-decided low high l (l + e) (omega arith)) [
-                        | fails test not-after ↦ faulty ends (Fault.order after-difference passed due (omega arith) high-node not-after)
+                      elim (follows-decided R l (l + e) (omega arith)) [
+                        | fails test not-after ↦ faulty ends (Fault.order after-difference due (omega arith) high-node not-after)
                         | holds test follows ↦
-                            weight-outcome passed due l e (omega arith) high-node follows s after-difference ends bytes-difference
+                            weight-outcome due l e (record { some = omega arith; node = high-node; follows = follows })
+                            s after-difference ends bytes-difference
                             (λ w more joins at-next bytes-next. goes-on l (l + e) w more joins follows at-next bytes-next)
                       ]
                 ]
           ])
     ])
 
-last-outcome : {n m : ℕ} {low high weight : List ℕ} (passed : Passed n m low high weight) → length low ≡ m
-    → (s rest : List ℕ) → s ≡ passedBytes n m low high weight ++ rest → Bytes rest → Outcome s
-unfolding planOf passedBytes
-last-outcome {n} {m} {low} {high} {weight} passed all s [] cut bytes =
-    inl (record {
-      n = n;
-      low = low;
-      high = high;
-      weight = weight;
-      network =
-          record {
-            high-row = passed .high-row;
-            weight-row = passed .weight-row;
-            some-node = passed .some-node;
-            few-nodes = passed .few-nodes;
-            few-links = rw all (passed .few-links);
-            joins = passed .joins;
-            ascends = passed .ascends;
-          };
-      bytes = rw (append-nil, ← all) at cut;
-    })
-last-outcome passed all s (b ∷ rest) cut bytes = faulty cut (Fault.bytes-left (b ∷ rest) passed all some-group)
+last-outcome : {R : Rows} → Accepted R → (s rest : List ℕ) → s ≡ planOf R ++ rest → Bytes rest → Outcome s
+last-outcome {R} network s [] cut bytes = inl (record { rows = R; network = network; bytes = rw append-nil at cut })
+last-outcome network s (b ∷ rest) cut bytes = faulty cut (Fault.bytes-left (b ∷ rest) network some-group)
 
-links-outcome : (left : ℕ) {n m : ℕ} {low high weight : List ℕ} (passed : Passed n m low high weight) → length low + left ≡ m
-    → (s rest : List ℕ) → s ≡ passedBytes n m low high weight ++ rest → Bytes rest → Outcome s
-links-outcome zero {n} {m} {low} {high} {weight} passed all s rest cut bytes = last-outcome passed (omega arith) s rest cut bytes
-links-outcome (suc left) {n} {m} {low} {high} {weight} passed all s rest cut bytes =
-    link-outcome passed (omega arith) s rest cut bytes
+links-outcome : (left : ℕ) {m : ℕ} {R : Rows} (passed : Passed m R) → length (R .low) + left ≡ m
+    → (s rest : List ℕ) → s ≡ planStart m R ++ rest → Bytes rest → Outcome s
+unfolding planOf
+links-outcome zero {m} {R} passed all s rest cut bytes =
+    let last : m ≡ length (R .low) = omega arith in
+    last-outcome (passed .network) s rest (rw last at cut) bytes
+links-outcome (suc left) {m} {R} passed all s rest cut bytes =
+    let due : LinkDue m R = record { passed = passed; more = omega arith } in
+    link-outcome due s rest cut bytes
     (λ l h w more joins follows at-next bytes-next.
-    links-outcome left (passes-more passed l h w (omega arith) joins follows) (simp length-append (omega arith)) s more
-    (rw (bytes-more passed l h w) (cut-after s (passedBytes n m low high weight) more (linkBytes l h w) at-next)) bytes-next)
+    links-outcome left (passes-more due l h w joins follows) (simp length-append (omega arith)) s more
+    (rw (bytes-more due l h w) (cut-after s (planStart m R) more (linkBytes l h w) at-next)) bytes-next)
 
-no-links : (n m : ℕ) → 0 < n → n ≤ mostNodes → m ≤ mostLinks → Passed n m [] [] []
+no-links : (n m : ℕ) → 0 < n → n ≤ mostNodes → m ≤ mostLinks → Passed m (record { nodes = n; low = []; high = []; weight = [] })
 no-links n m some few few-links =
     record {
-      some-node = some;
-      few-nodes = few;
+      network =
+          record {
+            high-row = refl;
+            weight-row = refl;
+            some-node = some;
+            few-nodes = few;
+            few-links = omega arith;
+            joins = λ k within. absurd (omega arith);
+            ascends = λ k within. absurd (omega arith);
+          };
       few-links = few-links;
       within = omega arith;
-      high-row = refl;
-      weight-row = refl;
-      joins = λ k within. absurd (omega arith);
-      ascends = λ k within. absurd (omega arith);
     }
 
 pub plan-or-fault : {s : List ℕ} → Bytes s → IsPlan s ⊎ Faulty s
-unfolding passedBytes linksBytes
+unfolding planStart linksBytes
 plan-or-fault {s} bytes =
     next-number Due.for-nodes s s refl bytes
     (λ n after-nodes fits at-nodes bytes-nodes.
@@ -269,19 +253,26 @@ plan-or-fault {s} bytes =
           ]
     ])
 
-pub plan-read : {s : List ℕ} (plan : IsPlan s) → readPlan s ≡ acceptance (plan .n) (plan .low) (plan .high) (plan .weight)
+abbrev number-of : Reading → ℕ
+number-of reading = reading .number
+
+abbrev place-of : Reading → ℕ
+place-of reading = reading .place
+
+pub plan-read : {s : List ℕ} (plan : IsPlan s) → readPlan s ≡ acceptance (plan .rows)
 plan-read plan = ap readPlan (plan .bytes) ∙ plan-reads (plan .network)
 
 -- The theorems, in the words of document 01: a number is given exactly on its fault, with the fault's place,
-pub refused-exactly : {s : List ℕ} {number place : ℕ} → Bytes s → number ≢ accepted → (readPlan s ≡ refusal number place) ↔ Fault s number place
+pub refused-exactly : {s : List ℕ} {number place : ℕ} → Bytes s → number ≢ accepted
+    → (readPlan s ≡ refusal number place) ↔ Fault s number place
 unfolding refusal
 refused-exactly {s} {number} {place} bytes refused = (
   (λ read.
       elim (plan-or-fault bytes) [
-        | inl plan ↦ absurd (refused (ap (λ (r : Reading). r .number) (sym read ∙ plan-read plan)))
+        | inl plan ↦ absurd (refused (ap number-of (sym read ∙ plan-read plan)))
         | inr faulty ↦
             let same = sym (fault-reads (faulty .fault)) ∙ read in
-            rw (ap (λ (r : Reading). r .number) same, ap (λ (r : Reading). r .place) same) at (faulty .fault)
+            rw (ap number-of same, ap place-of same) at (faulty .fault)
       ]),
   fault-reads,
 )
@@ -293,9 +284,9 @@ accepted-exactly bytes = (
   (λ read.
       elim (plan-or-fault bytes) [
         | inl plan ↦ plan
-        | inr faulty ↦ absurd (faulty .refused (sym (ap (λ (r : Reading). r .number) (fault-reads (faulty .fault))) ∙ read))
+        | inr faulty ↦ absurd (faulty .refused (sym (ap number-of (fault-reads (faulty .fault))) ∙ read))
       ]),
-  (λ plan. ap (λ (r : Reading). r .number) (plan-read plan)),
+  (λ plan. ap number-of (plan-read plan)),
 )
 
 -- A refused reading is its number and its place: its network is always the one-node network without links.
@@ -303,7 +294,7 @@ pub refused-whole : {s : List ℕ} → Bytes s → readPlan s .number ≢ accept
 unfolding refusal
 refused-whole bytes refused =
     elim (plan-or-fault bytes) [
-      | inl plan ↦ absurd (refused (ap (λ (r : Reading). r .number) (plan-read plan)))
+      | inl plan ↦ absurd (refused (ap number-of (plan-read plan)))
       | inr faulty ↦ rw (fault-reads (faulty .fault))
     ]
 
@@ -313,13 +304,13 @@ pub one-fault : {s : List ℕ} {number other place elsewhere : ℕ} → Fault s 
 unfolding refusal
 one-fault fault another =
     let same = sym (fault-reads fault) ∙ fault-reads another in
-    (ap (λ (r : Reading). r .number) same, ap (λ (r : Reading). r .place) same)
+    (ap number-of same, ap place-of same)
 
 -- The reader's numbers end with the eighth.
 pub number-range : {s : List ℕ} → Bytes s → readPlan s .number ≤ bytesLeft
 unfolding refusal
 number-range bytes =
     elim (plan-or-fault bytes) [
-      | inl plan ↦ omega (arith, ap (λ (r : Reading). r .number) (plan-read plan))
-      | inr faulty ↦ omega (arith, ap (λ (r : Reading). r .number) (fault-reads (faulty .fault)), fault-number (faulty .fault))
+      | inl plan ↦ omega (arith, ap number-of (plan-read plan))
+      | inr faulty ↦ omega (arith, ap number-of (fault-reads (faulty .fault)), fault-number (faulty .fault))
     ]

@@ -9,7 +9,7 @@ use native.Mathlib.Nat.{mul-le-mul-right, mul-le-mul-left, mul-assoc, one-le-pow
 use native.Mathlib.Omega.{arith}
 use borrow.Author.Tests.{lt-ltb, le-ltb, le-leb, lt-leb, ne-eqb}
 use lib.ListN.{length, getD}
-use Rattle.net.specs.Check.{both}
+use Rattle.net.specs.Choice.{both}
 use Rattle.net.specs.Refusals.{bytesEnd, numberForm}
 use Rattle.plan.specs.Number.{base, mostStored, groupsFrom}
 use Rattle.plan.specs.declared.number.Number.the-variants.{Value, Refused}

@@ -1,21 +1,33 @@
 -- The bytes of a stored plan one step at a time, and how many they are: a number's first group, a number's length, the links from one
--- on, and a bound on a whole plan's length.
+-- on, and that no plan is longer than `longest`: nodes, differences and both counts take one group, and only a weight may take all.
 use Prim.Native.Nat.{ℕ, zero, suc, _+_, _*_, _-_, _/_, _%_, _^_, _≤_, _<_}
-use mathlib.Core.Path.{_≡_, ap, _∙_}
-use mathlib.Core.List.{List, [], _∷_, _++_}
+use mathlib.Core.Path.{_≡_, refl, ap, _∙_}
+use mathlib.Core.List.{[], _∷_, _++_}
 use native.Mathlib.Numerals.{add-one}
 use native.Mathlib.Decide.{decLt}
 use native.Mathlib.Omega.{arith}
 use borrow.Author.Tests.{lt-ltb, le-ltb}
 use lib.ListN.{length, getD, length-append}
 use Rattle.net.specs.Limits.{mostLinks}
+use Rattle.net.specs.Rows.{Rows}
+use Rattle.net.specs.Check.{Accepted}
 use Rattle.plan.specs.Number.{base, groups, mostStored, groupsOf, stored}
-use Rattle.plan.specs.Plan.{linkBytes, linksBytes, planOf}
+use Rattle.plan.specs.Plan.{linkBytes, linkBytesAt, linksBytes, planStart, planOf, longestLink, longest}
+
+-- how the groups of a number begin
+pub groups-small : (more v : ℕ) → v < base → groupsOf more v ≡ v ∷ []
+unfolding groupsOf
+groups-small zero v small = refl
+groups-small (suc more) v small = simp (lt-ltb v base small)
+
+pub groups-large : (more v : ℕ) → base ≤ v → groupsOf (suc more) v ≡ (v % base + base) ∷ groupsOf more (v / base)
+unfolding groupsOf
+groups-large more v large = simp (le-ltb v base large)
 
 -- a number below the base is its own last group
 pub stored-last : (v : ℕ) → v < base → stored v ≡ v ∷ []
-unfolding stored groupsOf
-stored-last v h = simp (lt-ltb v base h)
+unfolding stored
+stored-last v small = groups-small (groups - 1) v small
 
 -- above that its first group stands before the groups of the rest: three groups are enough for it, so two are for the rest, and a third
 -- that may follow them changes nothing
@@ -53,10 +65,8 @@ unfolding groupsOf
 few-groups-of zero v = omega arith
 few-groups-of (suc more) v =
     elim (decLt v base) [
-      | yes l ↦ simp (lt-ltb v base l) (omega arith)
-      | no g ↦
-          let over : base ≤ v = omega arith in
-          simp (le-ltb v base over) (omega (arith, few-groups-of more (v / base)))
+      | yes small ↦ rw (groups-small (suc more) v small) (omega arith)
+      | no large ↦ rw (groups-large more v (omega arith)) (omega (arith, few-groups-of more (v / base)))
     ]
 
 pub few-groups : (v : ℕ) → length (stored v) ≤ groups
@@ -73,44 +83,57 @@ pub length-link : (low high weight : ℕ)
 unfolding linkBytes
 length-link low high weight = simp length-append (omega arith)
 
-few-link-bytes : (low high weight : ℕ) → length (linkBytes low high weight) ≤ 3 * groups
-few-link-bytes low high weight =
-    omega (arith, length-link low high weight, few-groups low, few-groups (high - low), few-groups weight)
-
-module _ (low high weight : List ℕ) where
-  -- the bytes of link k
-  abbrev pub link-at : ℕ → List ℕ
-  link-at k = linkBytes (getD low k 0) (getD high k 0) (getD weight k 0)
-
-  few-links-bytes : (left k : ℕ) → length (linksBytes left low high weight k) ≤ left * (3 * groups)
-  unfolding linksBytes
-  few-links-bytes zero k = omega arith
-  few-links-bytes (suc left) k =
-      simp length-append (omega (arith, few-link-bytes (getD low k 0) (getD high k 0) (getD weight k 0), few-links-bytes left (suc k)))
+module _ (R : Rows) where
+  open Rows R using (nodes as n, low)
 
   -- the links from k on, of m in all: done, or link k and the links after it
-  pub links-done : (m k : ℕ) → m ≤ k → linksBytes (m - k) low high weight k ≡ []
+  pub links-done : (m k : ℕ) → m ≤ k → linksBytes (m - k) R k ≡ []
   unfolding linksBytes
   links-done m k h =
       let e : m - k ≡ 0 = omega arith in
       rw e
 
-  pub links-on : (m k : ℕ) → k < m → linksBytes (m - k) low high weight k ≡ link-at k ++ linksBytes (m - (k + 1)) low high weight (k + 1)
+  pub links-on : (m k : ℕ) → k < m → linksBytes (m - k) R k ≡ linkBytesAt R k ++ linksBytes (m - (k + 1)) R (k + 1)
   unfolding linksBytes
   links-on m k h =
       let e : m - k ≡ suc (m - (k + 1)) = omega arith in
       rw (e, add-one)
 
-  pub length-links-on : (m k : ℕ) → k < m → length (linksBytes (m - k) low high weight k)
-      ≡ length (link-at k) + length (linksBytes (m - (k + 1)) low high weight (k + 1))
+  pub length-links-on : (m k : ℕ) → k < m
+      → length (linksBytes (m - k) R k) ≡ length (linkBytesAt R k) + length (linksBytes (m - (k + 1)) R (k + 1))
   length-links-on m k h = rw (links-on m k h, length-append)
 
   -- a plan's length is its two counts' and that of the links from the first on
-  pub length-plan : (n : ℕ) → length (planOf n low high weight)
-      ≡ length (stored n) + length (stored (length low)) + length (linksBytes (length low) low high weight 0)
-  unfolding planOf
-  length-plan n = simp length-append (omega arith)
+  pub length-plan : length (planOf R) ≡ length (stored n) + length (stored (length low)) + length (linksBytes (length low) R 0)
+  unfolding planOf planStart
+  length-plan = simp length-append (omega arith)
 
-  -- the most bytes of a plan: two numbers, and three for each link
-  pub few-plan-bytes : (n : ℕ) → length low ≤ mostLinks → length (planOf n low high weight) ≤ (2 + 3 * mostLinks) * groups
-  few-plan-bytes n h = omega (arith, length-plan n, few-groups n, few-groups (length low), few-links-bytes (length low) 0)
+module _ {R : Rows} (network : Accepted R) where
+  open Rows R using (nodes as n, low, high, weight)
+
+  short-link : (k : ℕ) → k < length low → length (linkBytesAt R k) ≤ longestLink
+  short-link k within =
+      let joins = network .joins k within in
+      omega (
+        arith,
+        length-link (getD low k 0) (getD high k 0) (getD weight k 0),
+        one-group (getD low k 0) (omega arith),
+        one-group (getD high k 0 - getD low k 0) (omega arith),
+        few-groups (getD weight k 0),
+      )
+
+  short-links : (left k : ℕ) → k + left ≤ length low → length (linksBytes left R k) ≤ longestLink * left
+  unfolding linksBytes
+  short-links zero k within = omega arith
+  short-links (suc left) k within =
+      simp length-append (omega (arith, short-link k (omega arith), short-links left (suc k) (omega arith)))
+
+  pub start-short : (m : ℕ) → m ≤ mostLinks → length (planStart m R) ≤ 2 + longestLink * length low
+  unfolding planStart
+  start-short m few =
+      simp length-append
+      (omega (arith, one-group n (omega arith), one-group m (omega arith), short-links (length low) 0 (omega arith)))
+
+  pub plan-short : length (planOf R) ≤ longest
+  unfolding planOf
+  plan-short = omega (arith, start-short (length low) (network .few-links))

@@ -3,81 +3,57 @@
 -- going through the groups); and in each of the three cases the reading is computed. As its three answers differ, each answer is
 -- given in its own case only. All of it holds for any number of groups; `groups` is put in at the end.
 use Prim.Native.Nat.{ℕ, zero, suc, _+_, _*_, _-_, _/_, _%_, _^_, _≤_, _<_}
-use mathlib.Core.Bool.{false}
 use mathlib.Core.Path.{_≡_, refl, sym, ap, _∙_}
 use mathlib.Core.Logic.{_⊎_, inl, inr, _≢_, _↔_}
 use mathlib.Core.List.{List, [], _∷_, _++_, append-assoc, append-nil}
 use native.Mathlib.Nat.{div-add-mod', zero-add, suc-add, pow-succ', pow-le-pow-right}
 use native.Mathlib.Decide.{ℕ-discrete, decLe, decLt}
 use native.Mathlib.Omega.{arith}
-use borrow.Author.Tests.{lt-ltb, le-ltb, le-leb, lt-leb, eq-eqb, ne-eqb}
 use lib.ListN.{length, getD, take, drop, length-append, take-append-drop, drop-of-length-le}
 use lib.Seq.{getD-append-seam, append-snoc, drop-append-seam, length-take-le}
-use lib.Dec.{ltb, eqb}
-use Rattle.net.specs.Check.{both}
 use Rattle.net.specs.Refusals.{bytesEnd, numberForm}
 use Rattle.plan.specs.declared.number.Number.{Number}
 use Rattle.plan.specs.declared.number.Number.the-variants.{Value, Refused}
 use Rattle.plan.specs.Number.{base, groups, mostStored, groupsOf, stored, groupsFrom, numberAt}
 use Rattle.plan.specs.Fault.{Bytes, Unended, Malformed}
+use Rattle.plan.proofs.Groups.{no-groups-left, bytes-end-there, zero-group-last, last-group, group-before-more}
+use Rattle.plan.proofs.Lengths.{groups-small, groups-large}
 
--- how the groups of a number begin
-groups-small : (more v : ℕ) → v < base → groupsOf more v ≡ v ∷ []
-unfolding groupsOf
-groups-small zero v small = refl
-groups-small (suc more) v small = simp (lt-ltb v base small)
+-- one group, read where it stands after some bytes: the laws of Groups at that place
+module _ (left : ℕ) (before rest : List ℕ) (first value scale : ℕ) (group : ℕ) where
+  abbrev bytes : List ℕ
+  bytes = before ++ (group ∷ rest)
 
-groups-large : (more v : ℕ) → base ≤ v → groupsOf (suc more) v ≡ (v % base + base) ∷ groupsOf more (v / base)
-unfolding groupsOf
-groups-large more v large = simp (le-ltb v base large)
+  some-left : suc left ≢ 0
+  some-left = omega arith
 
--- how many groups a number takes
-groups-length : (more v : ℕ) → length (groupsOf more v) ≤ suc more
-unfolding groupsOf
-groups-length zero v = omega arith
-groups-length (suc more) v =
-    elim (decLt v base) [
-      | yes small ↦ rw (groups-small (suc more) v small) (omega arith)
-      | no large ↦ rw (groups-large more v (omega arith)) (omega (arith, groups-length more (v / base)))
-    ]
+  inside : length before < length bytes
+  inside = simp length-append (omega arith)
 
-pub stored-length : (v : ℕ) → length (stored v) ≤ groups
-unfolding stored
-stored-length v = groups-length (groups - 1) v
+  here : getD bytes (length before) 0 ≡ group
+  here = getD-append-seam before group rest 0
 
-pub stored-small : (v : ℕ) → v < base → length (stored v) ≡ 1
-unfolding stored
-stored-small v small = ap length (groups-small (groups - 1) v small)
+  reads-last : group < base → (group ≡ 0 → length before ≤ first)
+      → groupsFrom (suc left) bytes first (length before) value scale ≡ Value (value + group * scale) (length before + 1)
+  reads-last small alone =
+      let single : (length before ≤ first) ⊎ (getD bytes (length before) 0 ≢ 0) =
+      elim (ℕ-discrete group 0) [ yes none ↦ inl (alone none) | no some ↦ inr (rw here some) ] in
+      rw here at (last-group bytes first (length before) value scale (suc left) some-left inside (rw here small) single)
 
--- one group, read where it stands after some bytes
-module _ (before : List ℕ) (group : ℕ) (rest : List ℕ) where
-  stands : length before < length (before ++ (group ∷ rest))
-  stands = simp length-append (omega arith)
-
-module _ (left : ℕ) (before rest : List ℕ) (first value scale : ℕ) where
-  reads-last : (group : ℕ) → group < base → (group ≡ 0 → length before ≤ first)
-      → groupsFrom (suc left) (before ++ (group ∷ rest)) first (length before) value scale ≡ Value (value + group * scale) (length before + 1)
-  unfolding groupsFrom
-  reads-last group small alone =
-      let no-zero-group : both (eqb group 0) (ltb first (length before)) ≡ false =
-      elim (ℕ-discrete group 0) [
-        | yes e ↦ simp (eq-eqb group 0 e, le-ltb first (length before) (alone e))
-        | no n ↦ simp (ne-eqb group 0 n)
-      ] in
-      simp (lt-leb _ _ (stands before group rest), getD-append-seam before group rest 0, lt-ltb _ _ small, no-zero-group)
-
-  refuses-zero : first < length before
-      → groupsFrom (suc left) (before ++ (0 ∷ rest)) first (length before) value scale ≡ Refused numberForm first
-  unfolding groupsFrom
-  refuses-zero later = simp (lt-leb _ _ (stands before 0 rest), getD-append-seam before 0 rest 0, lt-ltb _ _ later)
+  refuses-zero : group ≡ 0 → first < length before
+      → groupsFrom (suc left) bytes first (length before) value scale ≡ Refused numberForm first
+  refuses-zero none later = zero-group-last bytes first (length before) value scale (suc left) some-left inside (here ∙ none) later
 
   -- the reading goes on after a group with its top bit set
-  reads-on : (group : ℕ) → base ≤ group
-      → groupsFrom (suc left) (before ++ (group ∷ rest)) first (length before) value scale
-      ≡ groupsFrom left ((before ++ (group ∷ [])) ++ rest) first (length (before ++ (group ∷ []))) (value + (group - base) * scale) (scale * base)
-  unfolding groupsFrom
-  reads-on group large =
-      simp (append-snoc, length-append before (group ∷ []), lt-leb _ _ (stands before group rest), getD-append-seam before group rest 0, le-ltb _ _ large)
+  reads-on : base ≤ group
+      → groupsFrom (suc left) bytes first (length before) value scale
+      ≡ groupsFrom left ((before ++ (group ∷ [])) ++ rest) first (length (before ++ (group ∷ [])))
+      (value + (group - base) * scale) (scale * base)
+  reads-on large =
+      let less : suc left - 1 ≡ left = omega arith in
+      rw (append-snoc, length-append before (group ∷ []))
+      (rw (less, here) at
+      (group-before-more bytes first (length before) value scale (suc left) some-left inside (rw here large)))
 
 -- what was stored is read
 reads-groups : (more v : ℕ) (before rest : List ℕ) (first value scale : ℕ) → v < base ^ suc more → (v ≡ 0 → length before ≤ first)
@@ -93,11 +69,12 @@ reads-groups (suc more) v before rest first value scale fits alone =
           let digit : v % base + base - base ≡ v % base = omega arith in
           let worth : value + v % base * scale + v / base * (scale * base) ≡ value + v * scale =
           omega (arith, ap (λ (x : ℕ). x * scale) (div-add-mod' v base)) in
-          let place : length before + 1 + length (groupsOf more (v / base)) ≡ length before + suc (length (groupsOf more (v / base))) = omega arith in
+          let size = length (groupsOf more (v / base)) in
+          let place : length before + 1 + size ≡ length before + suc size = omega arith in
           let on = reads-on (suc more) before (groupsOf more (v / base) ++ rest) first value scale (v % base + base) (omega arith) in
           let next =
-          reads-groups more (v / base) (before ++ ((v % base + base) ∷ [])) rest first (value + (v % base + base - base) * scale) (scale * base)
-          (omega (arith, pow-succ' base (suc more))) (λ e. omega arith) in
+          reads-groups more (v / base) (before ++ ((v % base + base) ∷ [])) rest first (value + (v % base + base - base) * scale)
+          (scale * base) (omega (arith, pow-succ' base (suc more))) (λ e. omega arith) in
           rw (groups-large more v (omega arith)) (on ∙ next ∙ rw (digit, worth, length-append before ((v % base + base) ∷ []), place))
     ]
 
@@ -112,14 +89,6 @@ passes-unended left before rest first answer (Unended.more {b = group} {s = fron
     (reads-on (length front + left) before (front ++ rest) first value scale group large
     ∙ passes-unended left (before ++ (group ∷ [])) rest first answer unended (rw (append-snoc before group front) after) _ _)
 
-no-group : (left : ℕ) (s : List ℕ) (first value scale : ℕ) → groupsFrom (suc left) s first (length s) value scale ≡ Refused bytesEnd (length s)
-unfolding groupsFrom
-no-group left s first value scale = simp (le-leb (length s) (length s) (omega arith))
-
-refuses-many : (s : List ℕ) (first at value scale : ℕ) → groupsFrom zero s first at value scale ≡ Refused numberForm first
-unfolding groupsFrom
-refuses-many s first at value scale = refl
-
 pub some-length : (s : List ℕ) → s ≢ [] → 0 < length s
 some-length [] some = absurd (some refl)
 some-length (group ∷ s) some = omega arith
@@ -129,32 +98,39 @@ module _ {front : List ℕ} (more : ℕ) (before rest : List ℕ) (value scale :
   refuses-short : length front < suc more
       → groupsFrom (suc more) (before ++ front) (length before) (length before) value scale ≡ Refused bytesEnd (length (before ++ front))
   refuses-short few =
-      let left : length front + suc (more - length front) ≡ suc more = omega arith in
+      let s = before ++ front in
+      let last = more - length front in
+      let left : length front + suc last ≡ suc more = omega arith in
       rw (append-nil front, left) at
-      (passes-unended (suc (more - length front)) before [] (length before) (Refused bytesEnd (length (before ++ front))) unended
-      (λ value scale. rw (append-nil (before ++ front)) (no-group (more - length front) (before ++ front) (length before) value scale)) value scale)
+      (passes-unended (suc last) before [] (length before) (Refused bytesEnd (length s)) unended
+      (λ value scale.
+      rw (append-nil s) (bytes-end-there s (length before) (length s) value scale (suc last) (λ e. omega arith) (omega arith)))
+      value scale)
 
   refuses-too-many : length front ≡ suc more
       → groupsFrom (suc more) (before ++ (front ++ rest)) (length before) (length before) value scale ≡ Refused numberForm (length before)
   refuses-too-many all =
       let left : length front + 0 ≡ suc more = omega arith in
-      rw left at (passes-unended zero before rest (length before) _ unended (refuses-many _ _ _) value scale)
+      rw left at
+      (passes-unended zero before rest (length before) _ unended (λ value scale. no-groups-left _ _ _ value scale zero refl) value scale)
 
   refuses-zero-group : front ≢ [] → length front < suc more
-      → groupsFrom (suc more) (before ++ (front ++ (0 ∷ rest))) (length before) (length before) value scale ≡ Refused numberForm (length before)
+      → groupsFrom (suc more) (before ++ (front ++ (0 ∷ rest))) (length before) (length before) value scale
+      ≡ Refused numberForm (length before)
   refuses-zero-group some few =
       let left : length front + suc (more - length front) ≡ suc more = omega arith in
       let later : length before < length (before ++ front) = simp length-append (omega (arith, some-length front some)) in
       rw left at
       (passes-unended (suc (more - length front)) before (0 ∷ rest) (length before) (Refused numberForm (length before)) unended
-      (λ value scale. refuses-zero (more - length front) (before ++ front) rest (length before) value scale later) value scale)
+      (λ value scale. refuses-zero (more - length front) (before ++ front) rest (length before) value scale 0 refl later) value scale)
 
 -- How a list of bytes begins where a number is due.
 data Beginning (more : ℕ) (s : List ℕ) : Type 0 where
   whole : (v : ℕ) (rest : List ℕ) → v < base ^ suc more → s ≡ groupsOf more v ++ rest → Beginning more s
   short : Unended s → length s < suc more → Beginning more s
   too-many : {front : List ℕ} (rest : List ℕ) → Unended front → length front ≡ suc more → s ≡ front ++ rest → Beginning more s
-  zero-group : {front : List ℕ} (rest : List ℕ) → Unended front → front ≢ [] → length front < suc more → s ≡ front ++ (0 ∷ rest) → Beginning more s
+  zero-group : {front : List ℕ} (rest : List ℕ) → Unended front → front ≢ [] → length front < suc more → s ≡ front ++ (0 ∷ rest)
+      → Beginning more s
 
 pub some-group : {group : ℕ} {rest : List ℕ} → _≢_ {A = List ℕ} (group ∷ rest) []
 some-group e = let z : _≡_ {A = ℕ} 0 1 = cc in omega arith
@@ -172,7 +148,8 @@ longer more group large byte (whole v rest fits e) =
           (rw (groups-large more (group - base + base * v) (omega arith), first-group, later-groups) (ap (λ (t : List ℕ). group ∷ t) e))
     ]
 longer more group large byte (short unended few) = short (Unended.more large unended) (omega arith)
-longer more group large byte (too-many rest unended all e) = too-many rest (Unended.more large unended) (omega arith) (ap (λ (t : List ℕ). group ∷ t) e)
+longer more group large byte (too-many rest unended all e) =
+    too-many rest (Unended.more large unended) (omega arith) (ap (λ (t : List ℕ). group ∷ t) e)
 longer more group large byte (zero-group rest unended some few e) =
     zero-group rest (Unended.more large unended) some-group (omega arith) (ap (λ (t : List ℕ). group ∷ t) e)
 
@@ -269,15 +246,16 @@ answer-after before {rest} bytes =
           (record { before = before; rest = more; fits = fits; bytes = ap (λ (t : List ℕ). before ++ t) e; here = refl; after = refl })
           (rw e (number-reads v before more fits))
       | short unended few ↦
-          AnswerAt.short (rw (drop-append-seam before rest) unended) (rw (drop-append-seam before rest) few) (short-refuses before unended few)
+          let seam = drop-append-seam before rest in
+          AnswerAt.short (rw seam unended) (rw seam few) (short-refuses before unended few)
       | malformed {number} more form e ↦
           AnswerAt.malformed (record { number = number; rest = more; malformed = form; bytes = drop-append-seam before rest ∙ e })
           (rw e (malformed-refuses before more form))
     ]
 
 past-end : (s : List ℕ) (at : ℕ) → length s ≤ at → numberAt s at ≡ Refused bytesEnd (length s)
-unfolding numberAt groupsFrom
-past-end s at past = simp (le-leb (length s) at past)
+unfolding numberAt
+past-end s at past = bytes-end-there s at at 0 1 groups (λ e. omega arith) past
 
 answer-at : {s : List ℕ} → Bytes s → (at : ℕ) → AnswerAt s at
 answer-at {s} bytes at =

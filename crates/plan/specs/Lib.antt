@@ -3,3 +3,4 @@ pub mod Plan
 pub mod Reader
 pub mod Writer
 pub mod Fault
+pub mod inner

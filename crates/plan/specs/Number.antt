@@ -1,11 +1,10 @@
 -- Stored numbers (document 01, "Stored plan"): "All numbers are groups of seven bits, lowest group first, the byte's top bit set while
 -- more follow. At most three groups; a number of several groups doesn't end in a zero group."
-use Prim.Native.Nat.{ℕ, zero, suc, _+_, _*_, _-_, _/_, _%_, _^_, _<_}
-use mathlib.Core.Bool.{Bool, true, false}
+use Prim.Native.Nat.{ℕ, zero, suc, _+_, _*_, _-_, _/_, _%_, _^_}
 use mathlib.Core.List.{List, [], _∷_}
 use lib.ListN.{length, getD}
 use lib.Dec.{ltb, leb, eqb}
-use Rattle.net.specs.Check.{pick, both}
+use Rattle.net.specs.Choice.{pick, both}
 use Rattle.net.specs.Refusals.{bytesEnd, numberForm}
 use Rattle.plan.specs.declared.number.Number.{Number}
 use Rattle.plan.specs.declared.number.Number.the-variants.{Value, Refused}

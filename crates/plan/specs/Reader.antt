@@ -3,13 +3,14 @@
 -- first fault ends the reading, in whichever link and number it stands." What each refusal means in 01's own words, without a
 -- reader, is in Fault; that the two agree is a theorem.
 use Prim.Native.Nat.{ℕ, zero, suc, _+_}
-use mathlib.Core.Bool.{Bool, true, false}
 use mathlib.Core.List.{List}
-use lib.ListN.{length, replicate, set}
+use lib.ListN.{length, replicate, set, take}
 use lib.Dec.{ltb, leb, eqb}
-use Rattle.net.specs.Limits.{mostNodes, mostLinks, mostWeight}
+use Rattle.net.specs.Limits.{mostLinks}
 use Rattle.net.specs.Refusals.{accepted, nodeCount, linkCount, linkEnds, linkOrder, linkWeight, bytesLeft}
-use Rattle.net.specs.Check.{pick, comesAfter, badWeight, badNodeCount}
+use Rattle.net.specs.Choice.{pick, either}
+use Rattle.net.specs.Rows.{Rows}
+use Rattle.net.specs.Check.{comesAfter, badWeight, badNodeCount}
 use Rattle.net.specs.declared.Network.{Network}
 use Rattle.plan.specs.Number.{numberAt}
 use Rattle.plan.specs.declared.number.Number.{Number}
@@ -18,21 +19,36 @@ use Rattle.plan.specs.declared.reader.Reading.{Reading}
 use Rattle.plan.specs.declared.reader.LinkRead.{LinkRead}
 use Rattle.plan.specs.declared.reader.LinkRead.the-variants.{Got, Refused}
 
--- "Its network is then the one-node network without links."
-unfoldable pub refusal : ℕ → ℕ → Reading
-refusal number place =
+-- "The reader's answer holds the whole network; no rows are lent to it": m links in rows that have a place for each link there may be.
+abbrev pub networkRead : ℕ → Rows → Network
+networkRead m R = record { nodes = R .nodes; links = m; low = R .low; high = R .high; weight = R .weight }
+
+-- the network in memory that such an answer holds: its rows as far as its links go
+abbrev pub rowsRead : Network → Rows
+rowsRead N =
     record {
-      number = number;
-      place = place;
-      network =
-          record {
-            nodes = 1;
-            links = 0;
-            low = replicate mostLinks 0;
-            high = replicate mostLinks 0;
-            weight = replicate mostLinks 0;
-          };
+      nodes = N .nodes;
+      low = take (N .links) (N .low);
+      high = take (N .links) (N .high);
+      weight = take (N .links) (N .weight);
     }
+
+-- such rows before the first link
+abbrev pub noLinks : ℕ → Rows
+noLinks n = record { nodes = n; low = replicate mostLinks 0; high = replicate mostLinks 0; weight = replicate mostLinks 0 }
+
+-- and with link k filled in
+abbrev pub withLink : Rows → ℕ → ℕ → ℕ → ℕ → Rows
+withLink R k low high weight =
+    record { nodes = R .nodes; low = set (R .low) k low; high = set (R .high) k high; weight = set (R .weight) k weight }
+
+-- "Success has number 0, place 0"
+abbrev pub success : ℕ → Rows → Reading
+success m R = record { number = accepted; place = 0; network = networkRead m R }
+
+-- A refusal: "Its network is then the one-node network without links."
+unfoldable pub refusal : ℕ → ℕ → Reading
+refusal number place = record { number = number; place = place; network = networkRead 0 (noLinks 1) }
 
 -- the weight, read at `third`, of a link whose ends have passed
 unfoldable pub takeWeight : ℕ → ℕ → ℕ → Number → LinkRead
@@ -47,10 +63,9 @@ weightAt s third low high = takeWeight third low high (numberAt s third)
 unfoldable pub takeDifference : List ℕ → ℕ → ℕ → ℕ → ℕ → ℕ → ℕ → Number → LinkRead
 takeDifference s n first second low lowBefore highBefore (NoNumber number place) = Refused number place
 takeDifference s n first second low lowBefore highBefore (Value difference third) =
-    pick (eqb difference 0) (Refused linkEnds second)
-    (pick (leb n (low + difference)) (Refused linkEnds second)
+    pick (either (eqb difference 0) (leb n (low + difference))) (Refused linkEnds second)
     (pick (comesAfter lowBefore highBefore low (low + difference)) (weightAt s third low (low + difference))
-    (Refused linkOrder first)))
+    (Refused linkOrder first))
 
 unfoldable pub differenceAt : List ℕ → ℕ → ℕ → ℕ → ℕ → ℕ → ℕ → LinkRead
 differenceAt s n first second low lowBefore highBefore =
@@ -70,25 +85,17 @@ unfoldable pub takeLink : (ℕ → ℕ → ℕ → ℕ → Reading) → LinkRead
 takeLink more (Refused number place) = refusal number place
 takeLink more (Got low high weight next) = more low high weight next
 
--- the `left` links from link k on, the next one stored at `at`, with the rows as they are filled so far
-unfoldable pub linksRead : ℕ → List ℕ → ℕ → ℕ → ℕ → ℕ → ℕ → ℕ → List ℕ → List ℕ → List ℕ → Reading
-linksRead zero s n m at lowBefore highBefore k low high weight =
-    pick (ltb at (length s)) (refusal bytesLeft at)
-    (record {
-      number = accepted;
-      place = 0;
-      network = record { nodes = n; links = m; low = low; high = high; weight = weight };
-    })
-linksRead (suc left) s n m at lowBefore highBefore k low high weight =
-    takeLink (λ l h w next. linksRead left s n m next l h (k + 1) (set low k l) (set high k h) (set weight k w))
-    (linkAt s n at lowBefore highBefore)
+-- the `left` links from link k on, of m in all, the next one stored at `at`, with the rows as they are filled so far
+unfoldable pub linksRead : ℕ → List ℕ → ℕ → ℕ → ℕ → ℕ → ℕ → Rows → Reading
+linksRead zero s m at lowBefore highBefore k R = pick (ltb at (length s)) (refusal bytesLeft at) (success m R)
+linksRead (suc left) s m at lowBefore highBefore k R =
+    takeLink (λ low high weight next. linksRead left s m next low high (k + 1) (withLink R k low high weight))
+    (linkAt s (R .nodes) at lowBefore highBefore)
 
 -- the link count, read at `second`. Before the first link stands the pair 0, 0, which every link comes after.
 unfoldable pub takeLinkCount : List ℕ → ℕ → ℕ → Number → Reading
 takeLinkCount s n second (NoNumber number place) = refusal number place
-takeLinkCount s n second (Value m at) =
-    pick (ltb mostLinks m) (refusal linkCount second)
-    (linksRead m s n m at 0 0 0 (replicate mostLinks 0) (replicate mostLinks 0) (replicate mostLinks 0))
+takeLinkCount s n second (Value m at) = pick (ltb mostLinks m) (refusal linkCount second) (linksRead m s m at 0 0 0 (noLinks n))
 
 unfoldable pub linkCountAt : List ℕ → ℕ → ℕ → Reading
 linkCountAt s n second = takeLinkCount s n second (numberAt s second)

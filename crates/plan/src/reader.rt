@@ -2,12 +2,14 @@
 // order against the link before, weight. The first fault ends the reading, in whichever link and number it stands.
 ghost use mathlib.Core.Path.{_≡_};
 ghost use Prim.Native.Nat.{_≤_};
-ghost use lib.ListN.{replicate};
-ghost use Rattle.net.specs.Limits.{mostNodes, mostLinks};
-ghost use Rattle.plan.specs.Reader.{refusal, weightAt, differenceAt, linkAt, linksRead, linkCountAt, readPlan};
+ghost use Rattle.net.specs.Limits.{mostNodes};
+ghost use Rattle.plan.specs.Reader.{refusal, weightAt, differenceAt, linkAt, noLinks, linksRead, linkCountAt, readPlan};
+ghost use Rattle.plan.specs.inner.Counted.{Counted};
 use crate::cursor::number_at;
 use crate::number::Number;
 use net::Network;
+use net::bad_node_count;
+use net::bad_weight;
 use net::comes_after;
 use net::limit;
 use net::refusal;
@@ -52,13 +54,10 @@ fn read_weight(s: &[u8], third: usize, low: u8, high: u8) -> LinkRead
     match number_at(s, third) {
         Number::Refused(number, place) => LinkRead::Refused(number, place),
         Number::Value(weight, next) => {
-            if weight == 0 {
+            if bad_weight(weight) {
                 return LinkRead::Refused(refusal::LINK_WEIGHT, third);
             }
-            if (limit::WEIGHT as usize) < weight {
-                return LinkRead::Refused(refusal::LINK_WEIGHT, third);
-            }
-            LinkRead::Got(low, high, weight as u32, next)
+            LinkRead::Got(low, high, weight, next)
         }
     }
 }
@@ -79,14 +78,8 @@ fn read_difference(
     match number_at(s, second) {
         Number::Refused(number, place) => LinkRead::Refused(number, place),
         Number::Value(difference, third) => {
-            if difference == 0 {
-                return LinkRead::Refused(refusal::LINK_ENDS, second);
-            }
-            if n <= difference {
-                return LinkRead::Refused(refusal::LINK_ENDS, second);
-            }
-            let high = low as usize + difference;
-            if n <= high {
+            let high = low as usize + difference as usize;
+            if difference == 0 || n <= high {
                 return LinkRead::Refused(refusal::LINK_ENDS, second);
             }
             if comes_after(low_before, high_before, low as usize, high) {
@@ -105,7 +98,7 @@ fn read_link(s: &[u8], n: usize, first: usize, low_before: usize, high_before: u
     match number_at(s, first) {
         Number::Refused(number, place) => LinkRead::Refused(number, place),
         Number::Value(low, second) => {
-            if n <= low {
+            if n <= low as usize {
                 return LinkRead::Refused(refusal::LINK_ENDS, first);
             }
             read_difference(s, n, first, second, low as u8, low_before, high_before)
@@ -115,8 +108,8 @@ fn read_link(s: &[u8], n: usize, first: usize, low_before: usize, high_before: u
 
 // All links, then the end of the bytes.
 fn read_links(s: &[u8], n: usize, m: usize, first: usize) -> Reading
-    requires { ⌜ (n ≤ mostNodes) × (m ≤ mostLinks) ⌝ }
-    ensures { λ r. ⌜ r ≡ linksRead m (now (s .entry)) n m first 0 0 0 (replicate mostLinks 0) (replicate mostLinks 0) (replicate mostLinks 0) ⌝ }
+    requires { ⌜ Counted n m ⌝ }
+    ensures { λ r. ⌜ r ≡ linksRead m (now (s .entry)) m first 0 0 0 (noLinks n) ⌝ }
 {
     let mut low = [0u8; limit::LINKS];
     let mut high = [0u8; limit::LINKS];
@@ -164,7 +157,8 @@ fn read_link_count(s: &[u8], n: usize, second: usize) -> Reading
 {
     match number_at(s, second) {
         Number::Refused(number, place) => refused(number, place),
-        Number::Value(m, at) => {
+        Number::Value(count, at) => {
+            let m = count as usize;
             if limit::LINKS < m {
                 return refused(refusal::LINK_COUNT, second);
             }
@@ -178,11 +172,9 @@ pub fn read_plan(s: &[u8]) -> Reading
 {
     match number_at(s, 0) {
         Number::Refused(number, place) => refused(number, place),
-        Number::Value(n, second) => {
-            if n == 0 {
-                return refused(refusal::NODE_COUNT, 0);
-            }
-            if limit::NODES < n {
+        Number::Value(count, second) => {
+            let n = count as usize;
+            if bad_node_count(n) {
                 return refused(refusal::NODE_COUNT, 0);
             }
             read_link_count(s, n, second)

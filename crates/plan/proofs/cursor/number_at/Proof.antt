@@ -17,8 +17,10 @@ use ghost.Atoms.{Atoms, sem}
 use contract.Lifetimes.{Lfts}
 use contract.Monad.{Fun, fact}
 use contract.Running.{givenOf, tables, tablesOf}
-use types.Kit.{Given, ‵, raw, _⊛_, ⋆, some, later, _$_, _∵_, !, qed, by, move, use1, use2, split, join, pick, fsplit, fjoin, suffices, frame, await, done}
-use types.Run.{look, init, forget, stop, from, load, and-then, no-more, land, returns, enter, alloc1, alloc0, params1, pass1, pass0, free1, free0}
+use types.Kit.{Given, ‵, raw, _⊛_, ⋆, some, later, _$_, _∵_, !, qed, by, move, use1, use2, split, join, pick, fsplit, fjoin, suffices}
+use types.Kit.{frame, await, done}
+use types.Run.{look, init, forget, stop, from, load, and-then, no-more, land, returns, enter, alloc1, alloc0, params1, pass1, pass0, free1}
+use types.Run.{free0}
 use sound.WpLaws.{FmC, fmOf, WpFn-mono}
 use denote.RattleType.{RattleType, owns}
 use denote.Laws.{Is, shows}
@@ -73,7 +75,8 @@ module _ {M : Type 1} (𝓤 : URA M) (H : Heap 𝓤) (A : Atoms 𝓤) (mem : Mem
   abbrev NextNumber : Contract 𝓤
   NextNumber = tripleOf 𝓤 H A next-number.signature (next-number.spec 𝓤 H A mem run)
 
-module _ {M : Type 1} (𝓤 : URA M) (H : Heap 𝓤) (A : Atoms 𝓤) (W : Given 𝓤 H A) (mem : Memory → SProp 𝓤) (run : Routine → Fun 𝓤) (κ : Lft) (q : Share) (s : RefT (List ℕ)) (n : ℕ) (ok : n < 2 ^ 64) where
+module _ {M : Type 1} (𝓤 : URA M) (H : Heap 𝓤) (A : Atoms 𝓤) (W : Given 𝓤 H A) (mem : Memory → SProp 𝓤) (run : Routine → Fun 𝓤) (κ : Lft)
+    (q : Share) (s : RefT (List ℕ)) (n : ℕ) (ok : n < 2 ^ 64) where
   -- the machine value that s has
   abbrev v : Val
   v = sliceVal (s .ptr) (length (s .now))
@@ -86,7 +89,9 @@ module _ {M : Type 1} (𝓤 : URA M) (H : Heap 𝓤) (A : Atoms 𝓤) (W : Given
   αᵉ = record { mir = erased; lft = κ }
 
   abbrev Post : Val → SProp 𝓤
-  Post = walkOf 𝓤 H A number-at.ended stayed (number-at.clauses 𝓤 H A mem run) .post (((κ, tt), (q, tt), tt, (s, (n, tt)), (v ∷ [], (vint w64 n ∷ [], tt))), tt)
+  Post =
+      walkOf 𝓤 H A number-at.ended stayed (number-at.clauses 𝓤 H A mem run) .post
+      (((κ, tt), (q, tt), tt, (s, (n, tt)), (v ∷ [], (vint w64 n ∷ [], tt))), tt)
 
   abbrev Own : Fml
   Own = ShrSlice (named 0) κ u8 .own s (v ∷ [])
@@ -95,64 +100,101 @@ module _ {M : Type 1} (𝓤 : URA M) (H : Heap 𝓤) (A : Atoms 𝓤) (W : Given
   abbrev to-reader : ReaderAt 𝓤 H A mem run .Ghost
   to-reader = (((κ, tt), (q, tt), tt, (s, (n, tt)), (v ∷ [], (vint w64 n ∷ [], tt))), tt)
 
-  goes-reader : ent 𝓤 (onEntry 𝓤 H A number-at.signature (κ, tt) (q, tt) (s, (n, tt)) (v ∷ [], (vint w64 n ∷ [], tt))) (sep 𝓤 (ReaderAt 𝓤 H A mem run .pre to-reader) (sem 𝓤 H A Own))
+  goes-reader : ent 𝓤 (onEntry 𝓤 H A number-at.signature (κ, tt) (q, tt) (s, (n, tt)) (v ∷ [], (vint w64 n ∷ [], tt)))
+      (sep 𝓤 (ReaderAt 𝓤 H A mem run .pre to-reader) (sem 𝓤 H A Own))
   goes-reader =
       qed W ((‵ (flft κ q) ⊛ ‵ ftrue) ∷ ‵ (owns (ShrSlice (named 0) κ u8 ∷ usize ∷ []) (s, (n, tt)) (v ∷ [], (vint w64 n ∷ [], tt))) ∷ []) ∵
       move ! (1 ∷ []) $ fsplit ! $ use1 W (‵ Own ⊛ ‵ Own) (shr-slice-copy 𝓤 H A W (named 0) κ u8 .twice s (v ∷ [])) $ split ! $
-      move ! (0 ∷ 2 ∷ []) $ fjoin ! $ move ! (2 ∷ 0 ∷ []) $ use2 W (raw (ReaderAt 𝓤 H A mem run .pre to-reader)) (qed W ((‵ (flft κ q) ⊛ ‵ ftrue) ∷ ‵ (owns (ShrSlice (named 0) κ u8 ∷ usize ∷ []) (s, (n, tt)) (v ∷ [], (vint w64 n ∷ [], tt))) ∷ []) ∵ join ! $ frame ! $ done !) $ frame ! $ done !
+      move ! (0 ∷ 2 ∷ []) $ fjoin ! $ move ! (2 ∷ 0 ∷ []) $
+      use2 W (raw (ReaderAt 𝓤 H A mem run .pre to-reader))
+      (qed W ((‵ (flft κ q) ⊛ ‵ ftrue) ∷ ‵
+      (owns (ShrSlice (named 0) κ u8 ∷ usize ∷ []) (s, (n, tt)) (v ∷ [], (vint w64 n ∷ [], tt))) ∷ []) ∵ join ! $ frame ! $ done !) $
+      frame ! $ done !
 
-  reader-said : (r : Reader) → ent 𝓤 (ensured 𝓤 H A reader-at.ended (reader-at.clauses 𝓤 H A mem run) (κ, tt) (s, (n, tt)) tt r) (fact 𝓤 ((r .bytes ≡ s) × (r .at ≡ n)))
+  reader-said : (r : Reader) → ent 𝓤 (ensured 𝓤 H A reader-at.ended (reader-at.clauses 𝓤 H A mem run) (κ, tt) (s, (n, tt)) tt r)
+      (fact 𝓤 ((r .bytes ≡ s) × (r .at ≡ n)))
   reader-said r = exE 𝓤 _ (λ ws. snd∗ 𝓤 (sem 𝓤 H A (lasts reader-at.ended (κ, tt) (s, (n, tt)) ws)) (fact 𝓤 ((r .bytes ≡ s) × (r .at ≡ n))))
 
   -- the call of `next_number`, at the struct r with the machine value u
   abbrev to-number : Reader → Val → NextNumber 𝓤 H A mem run .Ghost
   to-number r u = (((κ, tt), (q, tt), tt, (r, tt), (u ∷ [], tt)), tt)
 
-  goes-number : (r : Reader) (u : Val) → ent 𝓤 (⋆ 𝓤 H A (‵ (B (κ, tt) .own r (u ∷ [])) ∷ (‵ (flft κ q) ⊛ ‵ ftrue) ∷ [])) (NextNumber 𝓤 H A mem run .pre (to-number r u))
-  goes-number r u = qed W (‵ (B (κ, tt) .own r (u ∷ [])) ∷ (‵ (flft κ q) ⊛ ‵ ftrue) ∷ []) ∵ nothing ! $ move ! (1 ∷ 0 ∷ []) $ fjoin ! $ move ! (1 ∷ 0 ∷ []) $ join ! $ frame ! $ done !
+  goes-number : (r : Reader) (u : Val)
+      → ent 𝓤 (⋆ 𝓤 H A (‵ (B (κ, tt) .own r (u ∷ [])) ∷ (‵ (flft κ q) ⊛ ‵ ftrue) ∷ [])) (NextNumber 𝓤 H A mem run .pre (to-number r u))
+  goes-number r u =
+      qed W (‵ (B (κ, tt) .own r (u ∷ [])) ∷ (‵ (flft κ q) ⊛ ‵ ftrue) ∷ []) ∵ nothing ! $ move ! (1 ∷ 0 ∷ []) $ fjoin ! $
+      move ! (1 ∷ 0 ∷ []) $ join ! $ frame ! $ done !
 
-  number-said : (r : Reader) (t : Number) → ent 𝓤 (ensured 𝓤 H A next-number.ended (next-number.clauses 𝓤 H A mem run) (κ, tt) (r, tt) tt t) (fact 𝓤 (t ≡ numberAt (now (r .bytes)) (r .at)))
-  number-said r t = exE 𝓤 _ (λ ws. snd∗ 𝓤 (sem 𝓤 H A (lasts next-number.ended (κ, tt) (r, tt) ws)) (fact 𝓤 (t ≡ numberAt (now (r .bytes)) (r .at))))
+  number-said : (r : Reader) (t : Number)
+      → ent 𝓤 (ensured 𝓤 H A next-number.ended (next-number.clauses 𝓤 H A mem run) (κ, tt) (r, tt) tt t)
+      (fact 𝓤 (t ≡ numberAt (now (r .bytes)) (r .at)))
+  number-said r t =
+      exE 𝓤 _ (λ ws. snd∗ 𝓤 (sem 𝓤 H A (lasts next-number.ended (κ, tt) (r, tt) ws)) (fact 𝓤 (t ≡ numberAt (now (r .bytes)) (r .at))))
 
-  exits : (t : Number) (u : Val) → t ≡ found → ent 𝓤 (⋆ 𝓤 H A (‵ (S.the-row .own t (u ∷ [])) ∷ (‵ (flft κ q) ⊛ ‵ ftrue) ∷ ‵ Own ∷ [])) (Post u)
+  exits : (t : Number) (u : Val) → t ≡ found
+      → ent 𝓤 (⋆ 𝓤 H A (‵ (S.the-row .own t (u ∷ [])) ∷ (‵ (flft κ q) ⊛ ‵ ftrue) ∷ ‵ Own ∷ [])) (Post u)
   exits t u e =
       qed W (‵ (S.the-row .own t (u ∷ [])) ∷ (‵ (flft κ q) ⊛ ‵ ftrue) ∷ ‵ Own ∷ []) ∵
-      suffices ! _ (ends-at 𝓤 H A number-at.ended stayed (number-at.clauses 𝓤 H A mem run) W (((κ, tt), (q, tt), tt, (s, (n, tt)), (v ∷ [], (vint w64 n ∷ [], tt))), tt) u t (tt, (tt, tt)) (tt, (tt, tt))) $ says ! e $
-      move ! (1 ∷ []) $ frame ! $ nothing ! $ owned ! usize (Is usize) (uint-makes 𝓤 H A W w64) n _ (refl, ok) $ fjoin ! $ move ! (2 ∷ 0 ∷ []) $ fjoin ! $ frame ! $ done !
+      suffices ! _ (ends-at 𝓤 H A number-at.ended stayed (number-at.clauses 𝓤 H A mem run) W
+      (((κ, tt), (q, tt), tt, (s, (n, tt)), (v ∷ [], (vint w64 n ∷ [], tt))), tt) u t (tt, (tt, tt)) (tt, (tt, tt))) $ says ! e $
+      move ! (1 ∷ []) $ frame ! $ nothing ! $ owned ! usize (Is usize) (uint-makes 𝓤 H A W w64) n _ (refl, ok) $ fjoin ! $
+      move ! (2 ∷ 0 ∷ []) $ fjoin ! $ frame ! $ done !
 
-  module _ (C : Calls 𝓤 H) (Λ : Loops 𝓤 H) (fm : FmC 𝓤 H (W .laws) C) (known-reader : Triple 𝓤 (C #reader-at) (ReaderAt 𝓤 H A mem run)) (known-number : Triple 𝓤 (C #next-number) (NextNumber 𝓤 H A mem run)) where
-    walk : Is (ShrSlice (named 0) κ u8) s (v ∷ []) → ent 𝓤 (onEntry 𝓤 H A number-at.signature (κ, tt) (q, tt) (s, (n, tt)) (v ∷ [], (vint w64 n ∷ [], tt))) (WpFn 𝓤 H C Λ code.function (v ∷ vint w64 n ∷ []) Post)
+  module _ (C : Calls 𝓤 H) (Λ : Loops 𝓤 H) (fm : FmC 𝓤 H (W .laws) C) (known-reader : Triple 𝓤 (C #reader-at) (ReaderAt 𝓤 H A mem run))
+      (known-number : Triple 𝓤 (C #next-number) (NextNumber 𝓤 H A mem run)) where
+    walk : Is (ShrSlice (named 0) κ u8) s (v ∷ [])
+        → ent 𝓤 (onEntry 𝓤 H A number-at.signature (κ, tt) (q, tt) (s, (n, tt)) (v ∷ [], (vint w64 n ∷ [], tt)))
+        (WpFn 𝓤 H C Λ code.function (v ∷ vint w64 n ∷ []) Post)
     walk p =
-        qed W (raw (onEntry 𝓤 H A number-at.signature (κ, tt) (q, tt) (s, (n, tt)) (v ∷ [], (vint w64 n ∷ [], tt))) ∷ []) ∵ enter ! C Λ code.function (v ∷ vint w64 n ∷ []) _ $
-        alloc1 ! (λ l₀. alloc1 ! (λ l₁. alloc1 ! (λ l₂. alloc1 ! (λ l₃. alloc0 ! $ params1 ! $ pass1 ! (init ! 4 refl (shr-slice-lawful 𝓤 H A W (named 0) κ u8 .typed s (v ∷ []) p .0)) $ pass1 ! (init ! 2 refl (tt, record { fits = ok })) $ pass0 ! $
+        qed W (raw (onEntry 𝓤 H A number-at.signature (κ, tt) (q, tt) (s, (n, tt)) (v ∷ [], (vint w64 n ∷ [], tt))) ∷ []) ∵
+        enter ! C Λ code.function (v ∷ vint w64 n ∷ []) _ $
+        alloc1 ! (λ l₀. alloc1 ! (λ l₁. alloc1 !
+        (λ l₂. alloc1 ! (λ l₃. alloc0 ! $ params1 ! $
+        pass1 ! (init ! 4 refl (shr-slice-lawful 𝓤 H A W (named 0) κ u8 .typed s (v ∷ []) p .0)) $
+        pass1 ! (init ! 2 refl (tt, record { fits = ok })) $ pass0 ! $
         move ! (8 ∷ []) $ use1 W (raw (ReaderAt 𝓤 H A mem run .pre to-reader) ⊛ ‵ Own) goes-reader $ split ! $
-        calls-at ! fm (ReaderAt 𝓤 H A mem run) known-reader to-reader (and-then ! (load ! (from ! (stop !)) (look ! 6 refl)) (and-then ! (load ! (from ! (stop !)) (look ! 4 refl)) (no-more !))) (λ u.
-        use1 W (later (some (λ (r : Reader). ((‵ (flft κ q) ⊛ ‵ ftrue) ⊛ ‵ (B (κ, tt) .own r (u ∷ []))) ⊛ raw (ensured 𝓤 H A reader-at.ended (reader-at.clauses 𝓤 H A mem run) (κ, tt) (s, (n, tt)) tt r)))) (id⊢ 𝓤 _) $ await ! tt $ pick ! (λ r.
-        split ! $ move ! (1 ∷ []) $ use1 W (raw (fact 𝓤 ((r .bytes ≡ s) × (r .at ≡ n)))) (reader-said r) $ heard ! ((r .bytes ≡ s) × (r .at ≡ n)) (λ e. split ! $ move ! (1 ∷ []) $
+        calls-at ! fm (ReaderAt 𝓤 H A mem run) known-reader to-reader
+        (and-then ! (load ! (from ! (stop !)) (look ! 6 refl)) (and-then ! (load ! (from ! (stop !)) (look ! 4 refl)) (no-more !))) (λ u.
+        use1 W (later (some (λ (r : Reader). ((‵ (flft κ q) ⊛ ‵ ftrue) ⊛ ‵ (B (κ, tt) .own r (u ∷ []))) ⊛ raw
+        (ensured 𝓤 H A reader-at.ended (reader-at.clauses 𝓤 H A mem run) (κ, tt) (s, (n, tt)) tt r)))) (id⊢ 𝓤 _) $ await ! tt $ pick ! (λ r.
+        split ! $ move ! (1 ∷ []) $ use1 W (raw (fact 𝓤 ((r .bytes ≡ s) × (r .at ≡ n)))) (reader-said r) $
+        heard ! ((r .bytes ≡ s) × (r .at ≡ n)) (λ e. split ! $ move ! (1 ∷ []) $
         -- [what the struct owns; the token; what s owns; room for _3; …; _2; …; _1; …; room for _0; …]
         peeks ! (B (κ, tt)) (Is (B (κ, tt))) (shows 𝓤 H A (B (κ, tt))) r (u ∷ []) (λ is.
         land ! (from ! (stop !)) (init ! 3 refl (LL.lawful (T.the-type αᵉ) (T′.the-laws αᵉ) 𝓤 H A W .typed r _ is .0)) $
         use2 W (raw (NextNumber 𝓤 H A mem run .pre (to-number r u))) (goes-number r u) $
-        calls-at ! fm (NextNumber 𝓤 H A mem run) known-number (to-number r u) (and-then ! (load ! (from ! (stop !)) (look ! 2 refl)) (no-more !)) (λ u′.
-        use1 W (later (some (λ (t : Number). ((‵ (flft κ q) ⊛ ‵ ftrue) ⊛ ‵ (S.the-row .own t (u′ ∷ []))) ⊛ raw (ensured 𝓤 H A next-number.ended (next-number.clauses 𝓤 H A mem run) (κ, tt) (r, tt) tt t)))) (id⊢ 𝓤 _) $ await ! tt $ pick ! (λ t.
-        split ! $ move ! (1 ∷ []) $ use1 W (raw (fact 𝓤 (t ≡ numberAt (now (r .bytes)) (r .at)))) (number-said r t) $ heard ! (t ≡ numberAt (now (r .bytes)) (r .at)) (λ e′. split ! $ move ! (1 ∷ []) $
+        calls-at ! fm (NextNumber 𝓤 H A mem run) known-number (to-number r u)
+        (and-then ! (load ! (from ! (stop !)) (look ! 2 refl)) (no-more !)) (λ u′.
+        use1 W (later (some (λ (t : Number). ((‵ (flft κ q) ⊛ ‵ ftrue) ⊛ ‵ (S.the-row .own t (u′ ∷ []))) ⊛ raw
+        (ensured 𝓤 H A next-number.ended (next-number.clauses 𝓤 H A mem run) (κ, tt) (r, tt) tt t)))) (id⊢ 𝓤 _) $ await ! tt $ pick ! (λ t.
+        split ! $ move ! (1 ∷ []) $ use1 W (raw (fact 𝓤 (t ≡ numberAt (now (r .bytes)) (r .at)))) (number-said r t) $
+        heard ! (t ≡ numberAt (now (r .bytes)) (r .at)) (λ e′. split ! $ move ! (1 ∷ []) $
         -- [the result; the token; what s owns; _3; …; _2; …; _1; …; room for _0; …]
         peeks ! S.the-row (Is S.the-row) (shows 𝓤 H A S.the-row) t (u′ ∷ []) (λ is′.
         land ! (from ! (stop !)) (init ! 9 refl (EL.lawful S.the-type S′.the-laws 𝓤 H A W tt .typed t _ is′ .0)) $
         returns ! (look ! 9 refl) $ forget ! 3 refl $ forget ! 5 refl $ forget ! 7 refl $ forget ! 9 refl $
-        move ! (9 ∷ 10 ∷ []) $ free1 ! $ move ! (7 ∷ 8 ∷ []) $ free1 ! $ move ! (5 ∷ 6 ∷ []) $ free1 ! $ move ! (3 ∷ 4 ∷ []) $ free1 ! $ free0 ! $
+        move ! (9 ∷ 10 ∷ []) $ free1 ! $ move ! (7 ∷ 8 ∷ []) $ free1 ! $ move ! (5 ∷ 6 ∷ []) $ free1 ! $ move ! (3 ∷ 4 ∷ []) $ free1 ! $
+        free0 ! $
         by ! (exits t u′ (e′ ∙ (ap (λ (x : RefT (List ℕ)). numberAt (now x) (r .at)) (e .0) ∙ ap (numberAt (now s)) (e .1))))))))))))))))
 
 module _ {M : Type 1} (𝓤 : URA M) (H : Heap 𝓤) (A : Atoms 𝓤) (W : Given 𝓤 H A) (mem : Memory → SProp 𝓤) (run : Routine → Fun 𝓤) where
-  number-at-walks : (C : Calls 𝓤 H) (Λ : Loops 𝓤 H) → FmC 𝓤 H (W .laws) C → Triple 𝓤 (C #reader-at) (ReaderAt 𝓤 H A mem run) → Triple 𝓤 (C #next-number) (NextNumber 𝓤 H A mem run)
+  number-at-walks : (C : Calls 𝓤 H) (Λ : Loops 𝓤 H) → FmC 𝓤 H (W .laws) C → Triple 𝓤 (C #reader-at) (ReaderAt 𝓤 H A mem run)
+      → Triple 𝓤 (C #next-number) (NextNumber 𝓤 H A mem run)
       → Walks 𝓤 H A number-at.ended stayed (WpFn 𝓤 H C Λ code.function) (number-at.clauses 𝓤 H A mem run)
-  number-at-walks C Λ fm known-reader known-number = walked 𝓤 H A number-at.ended stayed (number-at.clauses 𝓤 H A mem run) (WpFn 𝓤 H C Λ code.function) (λ κs. (slice-vals, (uint-vals w64, tt))) (λ κs. (shr-slice-tells (named 0) (κs .0) u8, (uint-tells w64, tt)))
-      (λ κs qs bounds a g are. via 𝓤 _ (fst∗ 𝓤 _ (emp 𝓤)) (walk 𝓤 H A W mem run (κs .0) (qs .0) (a .0) (a .1 .0) (are .1 .0 .1) C Λ fm known-reader known-number (are .0)))
+  number-at-walks C Λ fm known-reader known-number =
+      walked 𝓤 H A number-at.ended stayed (number-at.clauses 𝓤 H A mem run) (WpFn 𝓤 H C Λ code.function)
+      (λ κs. (slice-vals, (uint-vals w64, tt))) (λ κs. (shr-slice-tells (named 0) (κs .0) u8, (uint-tells w64, tt)))
+      (λ κs qs bounds a g are. via 𝓤 _ (fst∗ 𝓤 _ (emp 𝓤))
+      (walk 𝓤 H A W mem run (κs .0) (qs .0) (a .0) (a .1 .0) (are .1 .0 .1) C Λ fm known-reader known-number (are .0)))
 
-number-at-meets : {M : Type 1} (𝓤 : URA M) (H : Heap 𝓤) (A : Atoms 𝓤) (W : Given 𝓤 H A) (mem : Memory → SProp 𝓤) (run : Routine → Fun 𝓤) (𝓣 : Tables 𝓤 H)
+number-at-meets : {M : Type 1} (𝓤 : URA M) (H : Heap 𝓤) (A : Atoms 𝓤) (W : Given 𝓤 H A) (mem : Memory → SProp 𝓤) (run : Routine → Fun 𝓤)
+    (𝓣 : Tables 𝓤 H)
     → Triple 𝓤 (𝓣 .C #reader-at) (ReaderAt 𝓤 H A mem run) → Triple 𝓤 (𝓣 .C #next-number) (NextNumber 𝓤 H A mem run)
     → Meets 𝓤 H A number-at.signature (WpFn 𝓤 H (𝓣 .C) (𝓣 .Λ) code.function) (number-at.spec 𝓤 H A mem run)
-number-at-meets 𝓤 H A W mem run 𝓣 known-reader known-number = walk-meets 𝓤 H A number-at.ended stayed W (goes-none-slice 𝓤 H A W 1 (0 ∷ []) tt (plain (λ _. u8)) yes, (goes-none 𝓤 H A W 1 (λ _. usize) yes (λ κs x f. refl), tt)) (number-at.clauses 𝓤 H A mem run) (WpFn 𝓤 H (𝓣 .C) (𝓣 .Λ) code.function) (WpFn-mono 𝓤 H (W .laws) 𝓣 code.function)
+number-at-meets 𝓤 H A W mem run 𝓣 known-reader known-number =
+    walk-meets 𝓤 H A number-at.ended stayed W
+    (goes-none-slice 𝓤 H A W 1 (0 ∷ []) tt (plain (λ _. u8)) yes, (goes-none 𝓤 H A W 1 (λ _. usize) yes (λ κs x f. refl), tt))
+    (number-at.clauses 𝓤 H A mem run) (WpFn 𝓤 H (𝓣 .C) (𝓣 .Λ) code.function) (WpFn-mono 𝓤 H (W .laws) 𝓣 code.function)
     (number-at-walks 𝓤 H A W mem run (𝓣 .C) (𝓣 .Λ) (fmOf 𝓤 H (W .laws) 𝓣) known-reader known-number)
 
 pub number-at-spec : {M : Type 1} → stated.statement M
@@ -161,5 +203,7 @@ number-at-spec 𝓤 H 𝓜 𝓖 𝓡 =
     entered 𝓤 H (tripleOf 𝓤 H (𝓖 .A) number-at.signature (number-at.spec 𝓤 H (𝓖 .A) (𝓜 .mem) (𝓡 .run)))
     (tables 𝓤 H 𝓜 𝓡 code.env .C) (tables 𝓤 H 𝓜 𝓡 code.env .Λ) #number-at code.function (code.unfolded 𝓤 H 𝓜 𝓡)
     (number-at-meets 𝓤 H (𝓖 .A) (givenOf 𝓤 H 𝓜 𝓖) (𝓜 .mem) (𝓡 .run) (tablesOf 𝓤 H 𝓜 (tables 𝓤 H 𝓜 𝓡 code.env))
-    (cited 𝓤 H (ReaderAt 𝓤 H (𝓖 .A) (𝓜 .mem) (𝓡 .run)) 𝓜 𝓡 code.env #reader-at reader-at-def.routine code.calls-plan·cursor·reader-at (reader-at-thm.met 𝓤 H 𝓜 𝓖 𝓡))
-    (cited 𝓤 H (NextNumber 𝓤 H (𝓖 .A) (𝓜 .mem) (𝓡 .run)) 𝓜 𝓡 code.env #next-number next-number-def.routine code.calls-plan·cursor·next-number (next-number-thm.met 𝓤 H 𝓜 𝓖 𝓡)))
+    (cited 𝓤 H (ReaderAt 𝓤 H (𝓖 .A) (𝓜 .mem) (𝓡 .run)) 𝓜 𝓡 code.env #reader-at reader-at-def.routine code.calls-plan·cursor·reader-at
+    (reader-at-thm.met 𝓤 H 𝓜 𝓖 𝓡))
+    (cited 𝓤 H (NextNumber 𝓤 H (𝓖 .A) (𝓜 .mem)
+    (𝓡 .run)) 𝓜 𝓡 code.env #next-number next-number-def.routine code.calls-plan·cursor·next-number (next-number-thm.met 𝓤 H 𝓜 𝓖 𝓡)))

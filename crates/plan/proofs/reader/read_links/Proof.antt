@@ -1,29 +1,32 @@
 -- `read_links` meets `linksRead`: the loop's invariant is that the whole answer is the answer from link k on, with the rows as they
 -- are filled so far.
-use Prim.Native.Nat.{_-_, _≤_}
+use Prim.Native.Nat.{ℕ, _-_, _≤_, _<_}
 use mathlib.Core.Path.{_≡_, sym, _∙_}
+use mathlib.Core.List.{List}
 use native.Mathlib.Nat.{sub-zero}
 use native.Mathlib.Omega.{arith}
 use borrow.Author.Needs.{needs}
-use lib.ListN.{replicate}
-use Rattle.net.specs.Limits.{mostLinks}
-use Rattle.plan.specs.Reader.{linksRead}
+use Rattle.net.specs.Rows.{Rows}
+use Rattle.plan.specs.Reader.{noLinks, linksRead}
 use Rattle.plan.proofs.Readings.{bytes-left, all-read, link-refused, link-read}
 use Rattle.plan.proofs.reader.read_links.Statement.{statement}
 use Rattle.plan.proofs.reader.read_links.Tie as tie
 
+-- the links below k have been read
+record From (s : List ℕ) (n m first lowBefore highBefore at k : ℕ) (R : Rows) : Type 0 where
+  within : k ≤ m
+  rest : linksRead m s m first 0 0 0 (noLinks n) ≡ linksRead (m - k) s m at lowBefore highBefore k R
+
 abbrev Inv-links : tie.InvT-links
 Inv-links s n m first low₀ high₀ weight₀ low-before₀ high-before₀ at₀ k₀ low high weight low-before high-before at k =
-    (k ≤ m)
-    × (linksRead m s n m first 0 0 0 (replicate mostLinks 0) (replicate mostLinks 0) (replicate mostLinks 0)
-    ≡ linksRead (m - k) s n m at low-before high-before k low high weight)
+    From s n m first low-before high-before at k (record { nodes = n; low = low; high = high; weight = weight })
 
 abbrev μ-links : tie.MeasureT-links
 μ-links s n m first low₀ high₀ weight₀ low-before₀ high-before₀ at₀ k₀ low high weight low-before high-before at k =
     m - k
 
 links-holds : tie.Need-links-holds Inv-links μ-links
-links-holds c = (search needs, simp sub-zero)
+links-holds c = record { within = search needs; rest = simp sub-zero }
 
 refused-requires : tie.Need-refused-requires Inv-links μ-links
 refused-requires c κs = search needs
@@ -61,27 +64,40 @@ cast-high-before c = search needs
 add-k : tie.Need-add-k Inv-links μ-links
 add-k c = search needs
 
+-- where link k is due, fewer than m have been read
+due : (c : tie.Else1 Inv-links μ-links) → c .before .links .k < c .before .before .before .args .m
+due c = omega (arith, c .if1 .left)
+
 links-less : tie.Need-links-less Inv-links μ-links
-links-less c = omega (arith, c .before .before .before .before .if1 .left)
+links-less c = omega (arith, due (c .before .before .before .before))
 
 links-again : tie.Need-links-again Inv-links μ-links
 links-again c =
-    let l = c .before .before .before .before .before .links in (
-      omega (arith, c .before .before .before .before .if1 .left),
-      l .inv .1 ∙ link-read _ _ _ _ _ _ _ _ _ _ (omega (arith, c .before .before .before .before .if1 .left)) (c .before .before .before .read-link .ensures) _ _ _ _ (c .before .l .given .1),
-    )
+    let at-link = c .before .before .before in
+    let more = due (at-link .before) in
+    record {
+      within = omega (arith, more);
+      rest =
+          at-link .before .before .links .inv .rest
+          ∙ link-read _ _ _ _ _ _ _ more (at-link .read-link .ensures) _ _ _ _ (c .before .l .given .1);
+    }
 
 returns : tie.Need-returns Inv-links μ-links
-returns c = c .refused .ensures ∙ sym (c .before .before .before .links .inv .1 ∙ bytes-left _ _ _ _ _ _ _ _ _ _ (c .before .before .if1 .taken) (c .before .if2 .taken))
+returns c =
+    let all = c .before .before in
+    c .refused .ensures ∙ sym (all .before .links .inv .rest ∙ bytes-left _ _ _ _ _ _ _ (all .if1 .taken) (c .before .if2 .taken))
 
 returns-2 : tie.Need-returns-2 Inv-links μ-links
-returns-2 c = sym (c .before .before .links .inv .1 ∙ all-read _ _ _ _ _ _ _ _ _ _ (c .before .if1 .taken) (c .if2 .left))
+returns-2 c =
+    let all = c .before in
+    sym (all .before .links .inv .rest ∙ all-read _ _ _ _ _ _ _ (all .if1 .taken) (c .if2 .left))
 
 returns-3 : tie.Need-returns-3 Inv-links μ-links
 returns-3 c =
-    let l = c .before .before .before .before .before .before .links in
+    let at-link = c .before .before .before .before in
     c .refused2 .ensures
-    ∙ sym (l .inv .1 ∙ link-refused _ _ _ _ _ _ _ _ _ _ (omega (arith, c .before .before .before .before .before .if1 .left)) (c .before .before .before .before .read-link .ensures) _ _ (c .before .before .number .given .1))
+    ∙ sym (at-link .before .before .links .inv .rest
+    ∙ link-refused _ _ _ _ _ _ _ (due (at-link .before)) (at-link .read-link .ensures) _ _ (c .before .before .number .given .1))
 
 pub read-links-spec : {M : Type 1} → statement M
 read-links-spec =

@@ -1,7 +1,7 @@
--- `read_weight` reads the number and makes the tests in the order of `weightAt`.
-use mathlib.Core.Path.{sym}
+-- `read_weight` reads the number and makes the test of `weightAt`.
+use mathlib.Core.Path.{sym, _∙_}
 use borrow.Author.Needs.{needs}
-use Rattle.plan.proofs.Readings.{weight-unread, weight-zero, weight-above, weight-read}
+use Rattle.plan.proofs.Readings.{weight-unread, weight-refused, weight-read}
 use Rattle.plan.proofs.reader.read_weight.Statement.{statement}
 use Rattle.plan.proofs.reader.read_weight.Tie as tie
 
@@ -14,23 +14,25 @@ enum-known-number c = search needs
 enum-known-weight : tie.Need-enum-known-weight
 enum-known-weight c = search needs
 
-returns : tie.Need-returns
-returns c = sym (weight-zero _ _ _ _ (c .before .before .before .before .number-at .ensures) _ _ (c .before .before .weight .given .1) (c .if1 .taken))
+bad-weight-requires : tie.Need-bad-weight-requires
+bad-weight-requires c κs = search needs
 
-cast-if2 : tie.Need-cast-if2
-cast-if2 c = search needs
+returns : tie.Need-returns
+returns c =
+    let at-weight = c .before .before .before in
+    sym (weight-refused _ _ _ _ (at-weight .before .before .number-at .ensures) _ _ (at-weight .weight .given .1)
+    (sym (c .before .bad-weight .ensures) ∙ c .if1 .taken))
 
 returns-2 : tie.Need-returns-2
-returns-2 c = sym (weight-above _ _ _ _ (c .before .before .before .before .before .number-at .ensures) _ _ (c .before .before .before .weight .given .1) (c .before .if1 .left) (c .if2 .taken))
-
-cast-t13 : tie.Need-cast-t13
-cast-t13 c = search needs
+returns-2 c =
+    let at-refusal = c .before in
+    sym (weight-unread _ _ _ _ (at-refusal .before .before .number-at .ensures) _ _ (at-refusal .number .given .1))
 
 returns-3 : tie.Need-returns-3
-returns-3 c = sym (weight-unread _ _ _ _ (c .before .before .before .number-at .ensures) _ _ (c .before .number .given .1))
-
-returns-4 : tie.Need-returns-4
-returns-4 c = sym (weight-read _ _ _ _ (c .before .before .before .before .before .number-at .ensures) _ _ (c .before .before .before .weight .given .1) (c .before .if1 .left) (c .if2 .left))
+returns-3 c =
+    let at-weight = c .before .before .before in
+    sym (weight-read _ _ _ _ (at-weight .before .before .number-at .ensures) _ _ (at-weight .weight .given .1)
+    (sym (c .before .bad-weight .ensures) ∙ c .if1 .left))
 
 pub read-weight-spec : {M : Type 1} → statement M
 read-weight-spec =
@@ -39,9 +41,7 @@ read-weight-spec =
     number-at-requires
     enum-known-number
     enum-known-weight
+    bad-weight-requires
     returns
-    cast-if2
     returns-2
-    cast-t13
-    returns-3
-    returns-4)
+    returns-3)

@@ -1,16 +1,9 @@
 -- `link_length` adds the lengths of the link's three numbers, as `length-link` says; none takes more than three groups, so the sums fit.
 use native.Mathlib.Omega.{arith}
 use borrow.Author.Needs.{needs}
-use lib.ListN.{getD}
 use Rattle.plan.proofs.Lengths.{few-counted, length-link}
 use Rattle.plan.proofs.writer.link_length.Statement.{statement}
 use Rattle.plan.proofs.writer.link_length.Tie as tie
-
-end-at-requires : tie.Need-end-at-requires
-end-at-requires c κs = search needs
-
-end-at-requires-2 : tie.Need-end-at-requires-2
-end-at-requires-2 c κs = search needs
 
 stored-length-requires : tie.Need-stored-length-requires
 stored-length-requires c κs = search needs
@@ -24,21 +17,12 @@ stored-length-requires-2 c κs = search needs
 add-result : tie.Need-add-result
 add-result c = omega (arith, few-counted _ _ (c .before .stored-length .ensures), few-counted _ _ (c .stored-length2 .ensures))
 
-mul-stored-length : tie.Need-mul-stored-length
-mul-stored-length c = search needs
-
-shared-slice-read-stored-length : tie.Need-shared-slice-read-stored-length
-shared-slice-read-stored-length c = search needs
-
-cast-stored-length : tie.Need-cast-stored-length
-cast-stored-length c = search needs
-
 stored-length-requires-3 : tie.Need-stored-length-requires-3
 stored-length-requires-3 c κs = search needs
 
 add-result-2 : tie.Need-add-result-2
 add-result-2 c =
-    let at-second = c .before .before in
+    let at-second = c .before in
     omega (
       arith,
       few-counted _ _ (at-second .before .stored-length .ensures),
@@ -48,23 +32,17 @@ add-result-2 c =
 
 returns : tie.Need-returns
 returns c =
-    let args = c .before .before .before .before .before .before .before .before .before .args in
-    let k = args .k in
-    cc (length-link (getD (args .low .now) k 0) (getD (args .high .now) k 0) (getD (args .weight .now) k 0))
+    let args = c .before .before .before .args in
+    cc (length-link (args .low) (args .high) (args .weight))
 
 pub link-length-spec : {M : Type 1} → statement M
 link-length-spec =
     tie.close
     (tie.spec
-    end-at-requires
-    end-at-requires-2
     stored-length-requires
     sub-stored-length
     stored-length-requires-2
     add-result
-    mul-stored-length
-    shared-slice-read-stored-length
-    cast-stored-length
     stored-length-requires-3
     add-result-2
     returns)
