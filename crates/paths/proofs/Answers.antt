@@ -1,25 +1,32 @@
 -- What `best_path` answers from an entry of the square: the measures of the best path, and the routing entry as a byte.
-use Prim.Native.Nat.{ℕ, _%_, _≤_}
+use Prim.Native.Nat.{ℕ, _%_}
 use mathlib.Core.Bool.{true, false}
 use mathlib.Core.Path.{_≡_, refl}
 use mathlib.Core.Logic.{_≢_}
 use mathlib.Core.List.{List, []}
 use native.Mathlib.Omega.{arith}
+use lib.ListN.{length, getD}
 use Rattle.graph.specs.Network.{Network, WellFormed}
 use Rattle.graph.specs.Path.{stop, Over.none as over-none, All, weightSum}
 use Rattle.graph.proofs.Chain.{Best}
 use Rattle.graph.proofs.Simple.{simple}
 use Rattle.graph.proofs.Agreement.{best-path}
 use Rattle.graph.proofs.Sets.{set-of-path}
-use Rattle.net.specs.Limits.{mostNodes}
 use Rattle.net.specs.Entry.{nowhereByte, EntryByte}
-use Rattle.net.specs.Rows.{networkOf, headOf}
+use Rattle.net.specs.Rows.{Rows, networkOf, headOf}
+use Rattle.net.specs.Check.{Accepted}
+use Rattle.net.proofs.Accepted.{well-formed}
 use Rattle.net.proofs.Bytes.{nowhere-byte, onward-byte}
-use Rattle.paths.specs.Cost.{isKnown}
-use Rattle.paths.specs.Square.{Shows}
+use Rattle.paths.specs.inner.Cost.{isKnown}
+use Rattle.paths.specs.inner.Square.{Shows, BestSquare}
 use Rattle.paths.specs.Best.{Measures, of-path, of-none}
 use Rattle.paths.specs.declared.cost.Cost.{Cost}
-use Rattle.paths.proofs.Shown.{known-true, known-false, leads, leads-nowhere, shown-known, shown-unknown, shown-tells, measured-set}
+use Rattle.paths.proofs.Cells.{Shaped}
+use Rattle.paths.proofs.Shape.{read-cell}
+use Rattle.paths.proofs.BestSquare.{shows-all}
+use Rattle.paths.proofs.Verdict.{Passed}
+use Rattle.paths.proofs.SquareEntry.{known-true, known-false, leads, leads-nowhere}
+use Rattle.paths.proofs.SquareEntry.{shown-known, shown-unknown, shown-tells, measured-set}
 
 module _ (N : Network) (W : WellFormed N) {s d : ℕ} where
   -- the measures of a known entry are those of the best path
@@ -39,20 +46,28 @@ module _ (N : Network) (W : WellFormed N) {s d : ℕ} where
       let t : Best N All s [] d = record { chain = stop e; over = over-none; least = λ {q} c o. omega arith } in
       of-path (best-path N W t) refl (set-of-path W (simple N W t))
 
-module _ (n : ℕ) (low high weight : List ℕ) (W : WellFormed (networkOf n low high weight)) (few : n ≤ mostNodes)
-    {X : ℕ → Type 0} {i d : ℕ} where
+module _ (R : Rows) (A : Accepted R) {X : ℕ → Type 0} {i d : ℕ} where
   -- away from the destination a known entry gives a node, an unknown one none
-  module _ {c : Cost} (shown : Shows (networkOf n low high weight) X i d c) (away : i ≢ d) where
-    pub known-byte : isKnown c ≡ true → EntryByte (networkOf n low high weight) X i d (headOf low high (c .first) % 256)
+  module _ {c : Cost} (shown : Shows (networkOf R) X i d c) (away : i ≢ d) where
+    pub known-byte : isKnown c ≡ true → EntryByte (networkOf R) X i d (headOf (R .low) (R .high) (c .first) % 256)
     known-byte known =
-        elim (shown-tells (networkOf n low high weight) W shown away) [
-          | leads h entry ↦ onward-byte n low high weight W few entry
+        elim (shown-tells (networkOf R) (well-formed R A) shown away) [
+          | leads h entry ↦ onward-byte R (well-formed R A) (A .few-nodes) entry
           | leads-nowhere h entry ↦ absurd (omega (arith, known-true c .0 known))
         ]
 
-    pub unknown-byte : isKnown c ≡ false → EntryByte (networkOf n low high weight) X i d nowhereByte
+    pub unknown-byte : isKnown c ≡ false → EntryByte (networkOf R) X i d nowhereByte
     unknown-byte lost =
-        elim (shown-tells (networkOf n low high weight) W shown away) [
+        elim (shown-tells (networkOf R) (well-formed R A) shown away) [
           | leads h entry ↦ absurd (omega (arith, known-false c .0 lost))
           | leads-nowhere h entry ↦ nowhere-byte entry
         ]
+
+-- the entry that the code reads off the square over all links, whatever it would read past an array's end
+pub entry-shows : (R : Rows) {s d : ℕ} → Passed R s d → {square : List (List Cost)} → Shaped square
+    → BestSquare (networkOf R) (length (R .low)) square → (past : Cost)
+    → Shows (networkOf R) All s d (getD (getD square s []) d past)
+entry-shows R {s} {d} known {square} shaped best past =
+    let A = known .network in
+    rw (read-cell square shaped s d (omega (arith, known .source, A .few-nodes)) (omega (arith, known .destination, A .few-nodes)) past)
+    (shows-all (networkOf R) (well-formed R A) (length (R .low)) (omega arith) (best s d (known .source) (known .destination)))

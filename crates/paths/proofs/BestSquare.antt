@@ -25,17 +25,20 @@ use Rattle.graph.proofs.Rounds.{round-start, round-covers, round-link, round-sk
 use Rattle.graph.proofs.Finished.{finished-none, finished-here, finished-cost, first-kept, led-start}
 use Rattle.graph.proofs.Without.{over-without, without-none}
 use Rattle.net.specs.Limits.{mostNodes}
-use Rattle.net.specs.Rows.{networkOf}
-use Rattle.net.specs.Check.{pick, Accepted}
+use Rattle.net.specs.Rows.{Rows, networkOf}
+use Rattle.net.specs.Choice.{pick}
+use Rattle.net.specs.Check.{Accepted}
+use Rattle.net.proofs.Rows.{present-row, row-present}
 use Rattle.net.proofs.Accepted.{well-formed}
-use Rattle.paths.specs.Cost.{unknown, noCost}
-use Rattle.paths.specs.Square.{cell, offer, offersOf, roundFrom, roundOf, roundsOf, startSquare, Shows, here, found, BestSquare}
-use Rattle.paths.specs.Square.{Shows.none as no-path}
+use Rattle.paths.specs.inner.Cost.{unknown, noCost}
+use Rattle.paths.specs.inner.Square.{cell, Shows, here, found, BestSquare}
+use Rattle.paths.specs.inner.Rounds.{offer, linkOffers, roundFrom, roundOf, roundsOf, startSquare}
+use Rattle.paths.specs.inner.Square.{Shows.none as no-path}
 use Rattle.paths.specs.declared.cost.Cost.{Cost}
 use Rattle.paths.proofs.Cells.{Shaped, Turn, bothOffers, hereCost, offer-shaped, offer-here, offer-elsewhere}
 use Rattle.paths.proofs.Cells.{offers-shaped, offers-turn, start-shaped, start-here, start-elsewhere}
-use Rattle.paths.proofs.Pair.{Limited, number, entry, Fits, blank, known, blank-sum, entry-known, entry-blank}
-use Rattle.paths.proofs.Pair.{pair-of-chain, pair-of-nothing}
+use Rattle.paths.proofs.CostNumber.{Limited, number, entry, Fits, blank, known, blank-sum, entry-known, entry-blank}
+use Rattle.paths.proofs.CostNumber.{pair-of-chain, pair-of-nothing}
 use Rattle.paths.proofs.Offers.{entries, firsts, Holds, Offered, offered}
 
 -- the costs of all nodes for one destination
@@ -113,28 +116,27 @@ column-offered N f k x y d is-link is-tail is-head node destination square s =
       others = λ i other. offer-elsewhere f k x y (N .weight k) d square s node i (λ e. other (e ∙ sym is-tail));
     }
 
-module _ (n : ℕ) (low high weight : List ℕ) where
-  abbrev N : Network
-  N = networkOf n low high weight
+module _ (R : Rows) where
+  open Rows R using (nodes as n, low)
 
-  module _ (A : Accepted n low high weight) (out d : ℕ) (node : d < n) where
+  abbrev N : Network
+  N = networkOf R
+
+  module _ (A : Accepted R) (out d : ℕ) (node : d < n) where
     W : WellFormed N
-    W = well-formed n low high weight A
+    W = well-formed R A
 
     L : Limited N
-    L = record { few-links = A .few-links; light = λ k h. A .joins k h .light }
+    L = record { few-links = A .few-links; light = λ k h. A .joins k (present-row R k h) .light }
 
     -- a round that began with one square has come to another, and link k is next
     record Stage (square₀ square : List (List Cost)) (k : ℕ) : Type 0 where
       shaped : Shaped square
       underway : Underway N (But out) d (Passed N (But out) k) (column square₀ d) (column square d)
 
-    abbrev linkOffers : ℕ → List (List Cost) → List (List Cost)
-    linkOffers k square = offersOf n k (N .low k) (N .high k) (N .weight k) 0 square
-
     -- the turn of link k
     stage-offers : (k : ℕ) → k < length low → k ≢ out → (square₀ square : List (List Cost)) → Stage square₀ square k
-        → Stage square₀ (linkOffers k square) (suc k)
+        → Stage square₀ (linkOffers R k square) (suc k)
     stage-offers k present left-in square₀ square s =
         record { shaped = offers-shaped k (N .low k) (N .high k) (N .weight k) low-node high-node n 0 square (s .shaped); underway = next }
       where
@@ -144,7 +146,7 @@ module _ (n : ℕ) (low high weight : List ℕ) where
         high-node : N .high k < mostNodes
         high-node = omega (arith, A .joins k present, A .few-nodes)
 
-        turn : Turn k (N .low k) (N .high k) (N .weight k) d square (linkOffers k square)
+        turn : Turn k (N .low k) (N .high k) (N .weight k) d square (linkOffers R k square)
         turn = offers-turn k (N .low k) (N .high k) (N .weight k) low-node high-node n 0 square (s .shaped) d (omega arith) (omega arith)
 
         first : List (List Cost)
@@ -166,23 +168,23 @@ module _ (n : ℕ) (low high weight : List ℕ) where
         until : column (turn .at) d ≡ column square d
         until = λ j i. turn .until i j
 
-        since : column (linkOffers k square) d ≡ column (bothOffers k (N .low k) (N .high k) (N .weight k) d (turn .at)) d
+        since : column (linkOffers R k square) d ≡ column (bothOffers k (N .low k) (N .high k) (N .weight k) d (turn .at)) d
         since = λ j i. turn .since i j
 
-        next : Underway N (But out) d (Passed N (But out) (suc k)) (column square₀ d) (column (linkOffers k square) d)
+        next : Underway N (But out) d (Passed N (But out) (suc k)) (column square₀ d) (column (linkOffers R k square) d)
         next =
             rw since
-            (link-offered N W (But out) d L k present left-in (column square₀ d) (column (turn .at) d) (column first d) _ from-low from-high
-            (rw until (s .underway)))
+            (link-offered N W (But out) d L k (row-present R k present) left-in (column square₀ d) (column (turn .at) d) (column first d) _
+            from-low from-high (rw until (s .underway)))
 
     stage-round : (left k : ℕ) → k + left ≡ length low → (square₀ square : List (List Cost)) → Stage square₀ square k
-        → Stage square₀ (roundFrom left n low high weight out k square) (length low)
+        → Stage square₀ (roundFrom left R out k square) (length low)
     unfolding roundFrom
     stage-round zero k e square₀ square s = let all : k ≡ length low = omega arith in rw (← all) s
     stage-round (suc left) k e square₀ square s =
         stage-round left (suc k) (omega arith) square₀ _ next
       where
-        next : Stage square₀ (pick (eqb k out) square (linkOffers k square)) (suc k)
+        next : Stage square₀ (pick (eqb k out) square (linkOffers R k square)) (suc k)
         next =
             elim (ℕ-discrete k out) [
               | yes q ↦ rw (eq-eqb k out q) (record {
@@ -210,7 +212,7 @@ module _ (n : ℕ) (low high weight : List ℕ) where
           complete = complete-start N (But out) d (entries N (column (startSquare n) d)) (entry-here N at);
         }
 
-    after-round : (r : ℕ) (square : List (List Cost)) → After r square → After (suc r) (roundOf n low high weight out square)
+    after-round : (r : ℕ) (square : List (List Cost)) → After r square → After (suc r) (roundOf R out square)
     unfolding roundOf
     after-round r square a =
         let none-passed : Round N (But out) d (Passed N (But out) 0) (entries N (column square d)) (entries N (column square d)) =
@@ -226,7 +228,7 @@ module _ (n : ℕ) (low high weight : List ℕ) where
         }
 
     after-rounds : (rounds r : ℕ) (square : List (List Cost)) → After r square
-        → After (rounds + r) (roundsOf rounds n low high weight out square)
+        → After (rounds + r) (roundsOf rounds R out square)
     unfolding roundsOf
     after-rounds zero r square a = rw zero-add a
     after-rounds (suc rounds) r square a =
@@ -239,12 +241,12 @@ module _ (n : ℕ) (low high weight : List ℕ) where
         (finished-after-rounds N (But out) d W r enough (a .holds .sound) (a .complete)) i
 
 -- as many rounds as there are nodes, less one, are enough; more do no harm
-pub rounds-best : {n : ℕ} {low high weight : List ℕ} → Accepted n low high weight → (out rounds : ℕ) → n ≤ suc rounds
-    → BestSquare (networkOf n low high weight) out (roundsOf rounds n low high weight out (startSquare n))
-rounds-best {n} {low} {high} {weight} A out rounds enough i d node destination =
-    let start = after-start n low high weight A out d destination in
-    let end = after-rounds n low high weight A out d destination rounds 0 (startSquare n) start in
-    after-shows n low high weight A out d destination (rounds + 0) (omega arith) _ end i
+pub rounds-best : {R : Rows} → Accepted R → (out rounds : ℕ) → R .nodes ≤ suc rounds
+    → BestSquare (networkOf R) out (roundsOf rounds R out (startSquare (R .nodes)))
+rounds-best {R} A out rounds enough i d node destination =
+    let start = after-start R A out d destination in
+    let end = after-rounds R A out d destination rounds 0 (startSquare (R .nodes)) start in
+    after-shows R A out d destination (rounds + 0) (omega arith) _ end i
 
 -- an entry with a number taken out that is no link's is the entry with all links
 pub shows-all : (N : Network) → WellFormed N → (out : ℕ) → N .links ≤ out → {i d : ℕ} {c : Cost} → Shows N (But out) i d c

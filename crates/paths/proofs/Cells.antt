@@ -10,8 +10,9 @@ use native.Mathlib.Omega.{arith}
 use lib.ListN.{length, getD, set, replicate, length-set, length-replicate, getD-replicate}
 use lib.Seq.{getD-set-same, getD-set-other}
 use Rattle.net.specs.Limits.{mostNodes}
-use Rattle.paths.specs.Cost.{noCost, extended, lesserOf}
-use Rattle.paths.specs.Square.{cell, put, offer, offersOf, startFrom, startSquare}
+use Rattle.paths.specs.inner.Cost.{noCost, extended, lesserOf}
+use Rattle.paths.specs.inner.Square.{cell}
+use Rattle.paths.specs.inner.Rounds.{put, offer, offersOf, startFrom, startSquare}
 use Rattle.paths.specs.declared.cost.Cost.{Cost}
 
 -- a row and a column for each node there may be

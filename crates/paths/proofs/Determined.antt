@@ -2,14 +2,13 @@
 -- every part. Else there is one best path, so one weight sum, one set of links and one entry, or no path, which the contract says too.
 use Prim.Native.Nat.{ℕ}
 use mathlib.Core.Path.{_≡_, sym, ap, _∙_}
-use mathlib.Core.List.{List}
 use native.Mathlib.Decide.{ℕ-discrete}
 use Rattle.graph.specs.Network.{Network, WellFormed}
 use Rattle.graph.specs.Path.{weightSum}
 use Rattle.graph.proofs.Agreement.{best-path-one}
 use Rattle.graph.proofs.Sets.{set-one}
 use Rattle.net.specs.Refusals.{accepted}
-use Rattle.net.specs.Rows.{networkOf}
+use Rattle.net.specs.Rows.{Rows, networkOf}
 use Rattle.net.proofs.Accepted.{check-accepts, well-formed}
 use Rattle.net.proofs.Verdicts.{first-accepted}
 use Rattle.net.proofs.Bytes.{byte-one}
@@ -24,14 +23,13 @@ measures-one N W (of-path t sum set) (of-none no-path sum₂ set₂) = absurd (n
 measures-one N W (of-none no-path sum set) (of-path t sum₂ set₂) = absurd (no-path _ (t .path) (t .over))
 measures-one N W (of-none no-path sum set) (of-none no-path₂ sum₂ set₂) = (sum ∙ sym sum₂, set ∙ sym set₂)
 
-module _ (n : ℕ) (low high weight : List ℕ) (s d : ℕ) where
+module _ (R : Rows) (s d : ℕ) where
   -- the entry accepts only networks that the mathematics speaks of
-  answered-well-formed : {r : Answer} → BestPathAnswer n low high weight s d r → r .number ≡ accepted
-      → WellFormed (networkOf n low high weight)
+  answered-well-formed : {r : Answer} → BestPathAnswer R s d r → r .number ≡ accepted → WellFormed (networkOf R)
   unfolding bestPathVerdict
-  answered-well-formed a e = well-formed n low high weight (check-accepts n low high weight (first-accepted _ _ (sym (a .number) ∙ e)))
+  answered-well-formed a e = well-formed R (check-accepts R (first-accepted _ _ (sym (a .number) ∙ e)))
 
-  pub best-path-answer-one : {x y : Answer} → BestPathAnswer n low high weight s d x → BestPathAnswer n low high weight s d y → x ≡ y
+  pub best-path-answer-one : {x y : Answer} → BestPathAnswer R s d x → BestPathAnswer R s d y → x ≡ y
   best-path-answer-one {x} {y} a b =
       let number : x .number ≡ y .number = a .number ∙ sym (b .number) in
       let place : x .place ≡ y .place = a .place ∙ sym (b .place) in
@@ -39,7 +37,7 @@ module _ (n : ℕ) (low high weight : List ℕ) (s d : ℕ) where
         | yes e ↦
             let W = answered-well-formed a e in
             let e₂ : y .number ≡ accepted = sym number ∙ e in
-            let measures = measures-one (networkOf n low high weight) W (a .measures e) (b .measures e₂) in
+            let measures = measures-one (networkOf R) W (a .measures e) (b .measures e₂) in
             let entry : x .entry ≡ y .entry = byte-one W (a .routing e) (b .routing e₂) in
             equal number place (measures .0) (measures .1) entry
         | no refused ↦

@@ -1,10 +1,10 @@
 pub mod Cells
-pub mod Pair
+pub mod CostNumber
 pub mod Offers
 pub mod BestSquare
 pub mod Shape
-pub mod Unfold
-pub mod Shown
+pub mod RoundSteps
+pub mod SquareEntry
 pub mod Answers
 pub mod Determined
 pub mod Verdict

@@ -21,11 +21,11 @@ use Rattle.graph.proofs.Order.{LinksOnce, set-below, over-out}
 use Rattle.graph.proofs.Rounds.{Column, AtMost, Offer, Sound, falls-same, offer-loses, offer-wins, sound-offer}
 use Rattle.graph.proofs.Rounds.{known-comes-back, no-entry}
 use Rattle.graph.proofs.Finished.{Led, led-wins}
-use Rattle.paths.specs.Cost.{unknown, noCost, before, extended, lesserOf}
+use Rattle.paths.specs.inner.Cost.{unknown, noCost, before, extended, lesserOf}
 use Rattle.paths.specs.declared.cost.Cost.{Cost}
-use Rattle.paths.proofs.Pair.{Limited, number, entry, Fits, blank, known, Lower, before?, lesser-new, lesser-old}
-use Rattle.paths.proofs.Pair.{extended-known, extended-blank, entry-known, entry-blank, blank-not-lower, Within, entry-within}
-use Rattle.paths.proofs.Pair.{blank-sum, Behind, behind, behind-light}
+use Rattle.paths.proofs.CostNumber.{Limited, number, entry, Fits, blank, known, Lower, before?, lesser-new, lesser-old}
+use Rattle.paths.proofs.CostNumber.{extended-known, extended-blank, entry-known, entry-blank, blank-not-lower, Within, entry-within}
+use Rattle.paths.proofs.CostNumber.{blank-sum, Behind, behind, behind-light}
 
 -- a column of costs as the mathematics sees it, and the interfaces kept in it
 abbrev pub entries : Network → (ℕ → Cost) → Column

@@ -10,8 +10,8 @@ use denote.Shadow.{shadow}
 use lib.ListN.{length, getD}
 use mir.Val.{Val}
 use Rattle.net.specs.Limits.{mostNodes}
-use Rattle.paths.specs.Cost.{noCost}
-use Rattle.paths.specs.Square.{cell}
+use Rattle.paths.specs.inner.Cost.{noCost}
+use Rattle.paths.specs.inner.Square.{cell}
 use Rattle.paths.specs.declared.cost.Cost.{Cost}
 use Rattle.paths.proofs.Cells.{Shaped}
 

@@ -1,10 +1,8 @@
 -- What `best_path` promises.
-use Prim.Native.Nat.{ℕ, _<_}
-use mathlib.Core.Bool.{Bool}
+use Prim.Native.Nat.{ℕ}
 use mathlib.Core.Path.{_≡_}
 use mathlib.Core.Logic.{_≢_}
-use mathlib.Core.List.{List, [], _∷_}
-use lib.ListN.{length}
+use mathlib.Core.List.{List}
 use lib.Dec.{leb}
 use Rattle.graph.specs.Network.{Network}
 use Rattle.graph.specs.Path.{Path, BestPath, Lies, Over, All, weightSum}
@@ -12,24 +10,25 @@ use Rattle.graph.specs.Set.{SetOf}
 use Rattle.net.specs.Refusals.{accepted, nodeNumber}
 use Rattle.net.specs.Check.{checkNetwork, orElse, refusedIf}
 use Rattle.net.specs.Entry.{EntryByte}
-use Rattle.net.specs.Rows.{networkOf}
+use Rattle.net.specs.Rows.{Rows, networkOf}
 use Rattle.net.specs.declared.check.Verdict.{Verdict}
 use Rattle.paths.specs.declared.best.BestPath.{BestPath as Answer}
 
 -- the network's refusals, then 11, "source or destination not below the node count"
-unfoldable pub bestPathVerdict : ℕ → List ℕ → List ℕ → List ℕ → ℕ → ℕ → Verdict
-bestPathVerdict n low high weight source destination =
-    orElse (checkNetwork n low high weight)
-    (orElse (refusedIf (leb n source) nodeNumber) (refusedIf (leb n destination) nodeNumber))
+unfoldable pub bestPathVerdict : Rows → ℕ → ℕ → Verdict
+bestPathVerdict R source destination =
+    orElse (checkNetwork R) (orElse (refusedIf (leb (R .nodes) source) nodeNumber) (refusedIf (leb (R .nodes) destination) nodeNumber))
 
 -- weight sum and links of the best path over all links; both 0 where there is no path
 pub data Measures (N : Network) (s d sum set : ℕ) : Type 0 where
   of-path : {p : List ℕ} → BestPath N All s p d → sum ≡ weightSum N p → SetOf (N .links) (λ k. Lies k p) set → Measures N s d sum set
   of-none : ((p : List ℕ) → Path N s p d → Over All p → ⊥) → sum ≡ 0 → set ≡ 0 → Measures N s d sum set
 
-pub record BestPathAnswer (n : ℕ) (low high weight : List ℕ) (s d : ℕ) (r : Answer) : Type 0 where
-  pub number : r .number ≡ bestPathVerdict n low high weight s d .number
-  pub place : r .place ≡ bestPathVerdict n low high weight s d .place
+-- "Refused answers carry 0 in every part not named here"; else the best path's measures, and its routing entry: "the first node after i
+-- on the best path"
+pub record BestPathAnswer (R : Rows) (s d : ℕ) (r : Answer) : Type 0 where
+  pub number : r .number ≡ bestPathVerdict R s d .number
+  pub place : r .place ≡ bestPathVerdict R s d .place
   pub refused : r .number ≢ accepted → (r .sum ≡ 0) × (r .links ≡ 0) × (r .entry ≡ 0)
-  pub measures : r .number ≡ accepted → Measures (networkOf n low high weight) s d (r .sum) (r .links)
-  pub routing : r .number ≡ accepted → EntryByte (networkOf n low high weight) All s d (r .entry)
+  pub measures : r .number ≡ accepted → Measures (networkOf R) s d (r .sum) (r .links)
+  pub routing : r .number ≡ accepted → EntryByte (networkOf R) All s d (r .entry)

@@ -1,3 +1,2 @@
-pub mod Cost
-pub mod Square
+pub mod inner
 pub mod Best

@@ -10,6 +10,7 @@ use net::check_network;
 use net::entry;
 use net::head_of;
 use net::refusal;
+use net::unplaced;
 
 // What the entry answers; after a refusal, and where there is no path, weight sum and set are 0.
 pub struct BestPath {
@@ -28,23 +29,18 @@ fn best_path_verdict(
     s: usize,
     d: usize,
 ) -> Verdict
-    ensures { λ r. ⌜ r ≡ bestPathVerdict n (now (low .entry)) (now (high .entry)) (now (weight .entry)) s d ⌝ }
+    ensures { λ r. ⌜ r ≡ bestPathVerdict
+        (record { nodes = n; low = now (low .entry); high = now (high .entry); weight = now (weight .entry) }) s d ⌝ }
 {
     let verdict = check_network(n, low, high, weight);
     if verdict.number != refusal::NONE {
         return verdict;
     }
     if n <= s {
-        return Verdict {
-            number: refusal::NODE_NUMBER,
-            place: 0,
-        };
+        return unplaced(refusal::NODE_NUMBER);
     }
     if n <= d {
-        return Verdict {
-            number: refusal::NODE_NUMBER,
-            place: 0,
-        };
+        return unplaced(refusal::NODE_NUMBER);
     }
     verdict
 }
@@ -57,7 +53,9 @@ pub fn best_path(
     source: Node,
     destination: Node,
 ) -> BestPath
-    ensures { λ r. ⌜ BestPathAnswer n (now (low .entry)) (now (high .entry)) (now (weight .entry)) (source .0) (destination .0) r ⌝ }
+    ensures { λ r. ⌜ BestPathAnswer
+        (record { nodes = n; low = now (low .entry); high = now (high .entry); weight = now (weight .entry) })
+        (source .0) (destination .0) r ⌝ }
 {
     let s = source.0;
     let d = destination.0;

@@ -1,9 +1,9 @@
 // A path's cost: its weight sum, then its set of links (bit k for link k), which decides between equal sums: of two such sets the
 // smaller number lacks the highest link that is in only one of them. The first interface makes the next step free to read.
 ghost use mathlib.Core.Path.{_≡_};
-ghost use Prim.Native.Nat.{_≤_, _<_};
+ghost use Prim.Native.Nat.{_<_};
 ghost use Rattle.net.specs.Limits.{mostLinks};
-ghost use Rattle.paths.specs.Cost.{unknown, noCost, isKnown, before, extended, lesserOf};
+ghost use Rattle.paths.specs.inner.Cost.{noCost, isKnown, before, extended, lesserOf};
 
 pub struct Cost {
     pub links: u64,

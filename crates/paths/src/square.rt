@@ -1,11 +1,11 @@
 // The square of costs: an array of arrays, passed and returned by value between rounds. Rounds go over links.
 ghost use mathlib.Core.Path.{_≡_};
 ghost use Prim.Native.Nat.{_≤_};
-ghost use lib.ListN.{length};
 ghost use Rattle.net.specs.Limits.{mostNodes};
 ghost use Rattle.net.specs.Check.{Accepted};
 ghost use Rattle.net.specs.Rows.{networkOf};
-ghost use Rattle.paths.specs.Square.{startSquare, roundOf, BestSquare};
+ghost use Rattle.paths.specs.inner.Square.{BestSquare};
+ghost use Rattle.paths.specs.inner.Rounds.{startSquare, roundOf};
 use crate::cost::Cost;
 use crate::cost::comes_before;
 use crate::cost::extend;
@@ -41,8 +41,9 @@ fn round(
     weight: &[u32],
     out: usize,
 ) -> [[Cost; limit::NODES]; limit::NODES]
-    requires { ⌜ Accepted n (now low) (now high) (now weight) ⌝ }
-    ensures { λ r. ⌜ r ≡ roundOf n (now (low .entry)) (now (high .entry)) (now (weight .entry)) out square ⌝ }
+    requires { ⌜ Accepted (record { nodes = n; low = now low; high = now high; weight = now weight }) ⌝ }
+    ensures { λ r. ⌜ r ≡ roundOf
+        (record { nodes = n; low = now (low .entry); high = now (high .entry); weight = now (weight .entry) }) out square ⌝ }
 {
     let mut next = square;
     let links = low.len();
@@ -82,8 +83,9 @@ pub fn square_of(
     weight: &[u32],
     out: usize,
 ) -> [[Cost; limit::NODES]; limit::NODES]
-    requires { ⌜ Accepted n (now low) (now high) (now weight) ⌝ }
-    ensures { λ r. ⌜ BestSquare (networkOf n (now (low .entry)) (now (high .entry)) (now (weight .entry))) out r ⌝ }
+    requires { ⌜ Accepted (record { nodes = n; low = now low; high = now high; weight = now weight }) ⌝ }
+    ensures { λ r. ⌜ BestSquare (networkOf
+        (record { nodes = n; low = now (low .entry); high = now (high .entry); weight = now (weight .entry) })) out r ⌝ }
 {
     let mut square = start(n);
     let mut r: usize = 1;

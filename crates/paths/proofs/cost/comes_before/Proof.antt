@@ -1,6 +1,6 @@
 -- `comes_before` makes the tests in the order of `before`.
 use borrow.Author.Tests.{lt-ltb, le-ltb, eq-eqb, ne-eqb}
-use Rattle.paths.specs.Cost.{before}
+use Rattle.paths.specs.inner.Cost.{before}
 use Rattle.paths.proofs.cost.comes_before.Statement.{statement}
 use Rattle.paths.proofs.cost.comes_before.Tie as tie
 

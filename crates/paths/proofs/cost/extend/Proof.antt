@@ -7,7 +7,7 @@ use borrow.Author.Needs.{needs}
 use borrow.Author.Tests.{lt-ltb, le-ltb}
 use lib.Dec.{lit<}
 use lib.Pow.{shl-exact}
-use Rattle.paths.specs.Cost.{extended}
+use Rattle.paths.specs.inner.Cost.{extended}
 use Rattle.paths.proofs.cost.extend.Statement.{statement}
 use Rattle.paths.proofs.cost.extend.Tie as tie
 

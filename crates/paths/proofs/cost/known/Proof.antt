@@ -1,6 +1,6 @@
 -- `known` is the test of `isKnown`.
 use mathlib.Core.Path.{refl}
-use Rattle.paths.specs.Cost.{isKnown}
+use Rattle.paths.specs.inner.Cost.{isKnown}
 use Rattle.paths.proofs.cost.known.Statement.{statement}
 use Rattle.paths.proofs.cost.known.Tie as tie
 

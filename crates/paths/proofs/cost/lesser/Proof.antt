@@ -1,7 +1,7 @@
 -- `lesser` picks by the test of `lesserOf`.
 use mathlib.Core.Path.{sym, _∙_}
 use borrow.Author.Needs.{needs}
-use Rattle.paths.specs.Cost.{lesserOf}
+use Rattle.paths.specs.inner.Cost.{lesserOf}
 use Rattle.paths.proofs.cost.lesser.Statement.{statement}
 use Rattle.paths.proofs.cost.lesser.Tie as tie
 

@@ -1,6 +1,6 @@
 -- `no_cost` is `noCost` as it stands.
 use mathlib.Core.Path.{refl}
-use Rattle.paths.specs.Cost.{noCost}
+use Rattle.paths.specs.inner.Cost.{noCost}
 use Rattle.paths.proofs.cost.no_cost.Statement.{statement}
 use Rattle.paths.proofs.cost.no_cost.Tie as tie
 

@@ -3,8 +3,8 @@ use Prim.Native.Nat.{_≤_, _-_}
 use mathlib.Core.Path.{_≡_, sym, _∙_}
 use native.Mathlib.Omega.{arith}
 use borrow.Author.Needs.{needs}
-use Rattle.paths.specs.Square.{put, startFrom, startSquare}
-use Rattle.paths.proofs.Unfold.{start-begin, start-done, start-on}
+use Rattle.paths.specs.inner.Rounds.{put, startFrom, startSquare}
+use Rattle.paths.proofs.RoundSteps.{start-begin, start-done, start-on}
 use Rattle.paths.proofs.square.start.Statement.{statement}
 use Rattle.paths.proofs.square.start.Tie as tie
 

@@ -20,10 +20,10 @@ use Rattle.graph.proofs.Unique.{unique}
 use Rattle.graph.proofs.Agreement.{path-best}
 use Rattle.graph.proofs.Entries.{best-entry}
 use Rattle.graph.proofs.Sets.{set-of-path}
-use Rattle.paths.specs.Cost.{unknown, isKnown}
-use Rattle.paths.specs.Square.{Shows, here, found, none}
+use Rattle.paths.specs.inner.Cost.{unknown, isKnown}
+use Rattle.paths.specs.inner.Square.{Shows, here, found, none}
 use Rattle.paths.specs.declared.cost.Cost.{Cost}
-use Rattle.paths.proofs.Pair.{Lower}
+use Rattle.paths.proofs.CostNumber.{Lower}
 
 pub known-true : (c : Cost) → (isKnown c ≡ true) ↔ (c .sum < unknown)
 unfolding isKnown

@@ -2,10 +2,10 @@
 -- "Of two paths of equal sum, the better lacks the highest-numbered link that lies on only one of them": that is the smaller set,
 -- read as a binary number (graph's Order proves it).
 use Prim.Native.Nat.{ℕ, _+_, _-_, _^_}
-use mathlib.Core.Bool.{Bool, true, false}
+use mathlib.Core.Bool.{Bool}
 use lib.Bits.{bitOr}
 use lib.Dec.{ltb, eqb}
-use Rattle.net.specs.Check.{pick, either, both}
+use Rattle.net.specs.Choice.{pick, either, both}
 use Rattle.paths.specs.declared.cost.Cost.{Cost}
 
 -- no path has this weight sum

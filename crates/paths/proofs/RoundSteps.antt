@@ -13,9 +13,11 @@ use lib.Dec.{eqb}
 use lib.ListN.{length, getD, set, replicate}
 use lib.Seq.{set-getD}
 use Rattle.net.specs.Limits.{mostNodes}
-use Rattle.net.specs.Check.{pick}
-use Rattle.paths.specs.Cost.{noCost, before, extended, lesserOf}
-use Rattle.paths.specs.Square.{cell, put, offer, offersOf, roundFrom, roundOf, roundsOf, startFrom, startSquare}
+use Rattle.net.specs.Choice.{pick}
+use Rattle.net.specs.Rows.{Rows}
+use Rattle.paths.specs.inner.Cost.{noCost, before, extended, lesserOf}
+use Rattle.paths.specs.inner.Square.{cell}
+use Rattle.paths.specs.inner.Rounds.{put, offer, offersOf, linkOffers, roundFrom, roundOf, roundsOf, startFrom, startSquare}
 use Rattle.paths.specs.declared.cost.Cost.{Cost}
 use Rattle.paths.proofs.Cells.{Shaped, hereCost, put-shaped, put-here, put-elsewhere, bothOffers}
 use Rattle.paths.proofs.Shape.{read-cell}
@@ -30,7 +32,8 @@ one-more : (i : ℕ) → suc i ≡ i + 1
 one-more i = omega arith
 
 -- at the start nothing is known
-pub start-begin : (n : ℕ) {none : Cost} → none ≡ noCost → startSquare n ≡ startFrom (n - 0) 0 (replicate mostNodes (replicate mostNodes none))
+pub start-begin : (n : ℕ) {none : Cost} → none ≡ noCost
+    → startSquare n ≡ startFrom (n - 0) 0 (replicate mostNodes (replicate mostNodes none))
 unfolding startSquare
 start-begin n e = rw sub-zero (ap (λ (c : Cost). startFrom n 0 (replicate mostNodes (replicate mostNodes c))) (sym e))
 
@@ -78,12 +81,14 @@ pub both-offers : (k x y weight d : ℕ) (square : List (List Cost)) → Shaped 
     → ((high-better ≡ true) × (next ≡ put stored y d down)) ⊎ ((high-better ≡ false) × (next ≡ stored))
     → (bothOffers k x y weight d square ≡ next) × Shaped next
 unfolding offer
-both-offers k x y weight d square shaped row-x row-y column differ past {up} {nearer} {down} {stored} {next} up-is low-compared low-stored nearer-is down-is high-compared high-stored =
+both-offers k x y weight d square shaped row-x row-y column differ past {up} {nearer} {down} {stored} {next} up-is low-compared low-stored
+    nearer-is down-is high-compared high-stored =
     let here : getD (getD square x []) d past ≡ cell square x d = read-cell square shaped x d row-x column past in
     let there : getD (getD square y []) d past ≡ cell square y d = read-cell square shaped y d row-y column past in
     let first : stored ≡ put square x d nearer =
     stored-if square x d up here low-compared low-stored ∙ ap (put square x d) (sym nearer-is) in
-    let kept : cell (put square x d nearer) y d ≡ cell square y d = put-elsewhere square shaped x row-x d nearer y d (λ e. differ (sym e)) in
+    let kept : cell (put square x d nearer) y d ≡ cell square y d =
+    put-elsewhere square shaped x row-x d nearer y d (λ e. differ (sym e)) in
     let found : cell (put square x d nearer) x d ≡ nearer = put-here square shaped x row-x d nearer column in
     let other : Cost = lesserOf (getD (getD square y []) d past) down in
     let second : next ≡ put stored y d other =
@@ -92,39 +97,36 @@ both-offers k x y weight d square shaped row-x row-y column differ past {up} {ne
     (rw (offered, kept, found) (cc), rw (second, first) (put-shaped _ (put-shaped square shaped x row-x d nearer) y row-y d other))
 
 -- the links from k on, of m in all
-module _ (m n : ℕ) (low high weight : List ℕ) (out k : ℕ) (square : List (List Cost)) where
-  pub round-done : m ≤ k → roundFrom (m - k) n low high weight out k square ≡ square
+module _ (m : ℕ) (R : Rows) (out k : ℕ) (square : List (List Cost)) where
+  pub round-done : m ≤ k → roundFrom (m - k) R out k square ≡ square
   unfolding roundFrom
   round-done h = rw (all-done m k h)
 
   round-step : k < m
-      → roundFrom (m - k) n low high weight out k square
-      ≡ roundFrom (m - (k + 1)) n low high weight out (k + 1)
-      (pick (eqb k out) square (offersOf n k (getD low k 0) (getD high k 0) (getD weight k 0) 0 square))
+      → roundFrom (m - k) R out k square ≡ roundFrom (m - (k + 1)) R out (k + 1) (pick (eqb k out) square (linkOffers R k square))
   unfolding roundFrom
   round-step h = rw (one-less m k h, ← one-more k)
 
   pub round-out : k < m → k ≡ out
-      → roundFrom (m - k) n low high weight out k square ≡ roundFrom (m - (k + 1)) n low high weight out (k + 1) square
+      → roundFrom (m - k) R out k square ≡ roundFrom (m - (k + 1)) R out (k + 1) square
   round-out h e = rw (round-step h, eq-eqb k out e)
 
-  pub round-on : k < m → k ≢ out → (next : List (List Cost))
-      → offersOf n k (getD low k 0) (getD high k 0) (getD weight k 0) 0 square ≡ next
-      → roundFrom (m - k) n low high weight out k square ≡ roundFrom (m - (k + 1)) n low high weight out (k + 1) next
+  pub round-on : k < m → k ≢ out → (next : List (List Cost)) → linkOffers R k square ≡ next
+      → roundFrom (m - k) R out k square ≡ roundFrom (m - (k + 1)) R out (k + 1) next
   round-on h other next e = rw (round-step h, ne-eqb k out other, e)
 
-pub round-begin : (n : ℕ) (low high weight : List ℕ) (out : ℕ) (square : List (List Cost))
-    → roundOf n low high weight out square ≡ roundFrom (length low - 0) n low high weight out 0 square
+pub round-begin : (R : Rows) (out : ℕ) (square : List (List Cost))
+    → roundOf R out square ≡ roundFrom (length (R .low) - 0) R out 0 square
 unfolding roundOf
-round-begin n low high weight out square = rw sub-zero
+round-begin R out square = rw sub-zero
 
 -- no round, and one round more, at the end
-pub rounds-none : (n : ℕ) (low high weight : List ℕ) (out : ℕ) (square : List (List Cost)) → roundsOf 0 n low high weight out square ≡ square
+pub rounds-none : (R : Rows) (out : ℕ) (square : List (List Cost)) → roundsOf 0 R out square ≡ square
 unfolding roundsOf
-rounds-none n low high weight out square = refl
+rounds-none R out square = refl
 
-pub rounds-on : (rounds n : ℕ) (low high weight : List ℕ) (out : ℕ) (square : List (List Cost))
-    → roundsOf (suc rounds) n low high weight out square ≡ roundOf n low high weight out (roundsOf rounds n low high weight out square)
+pub rounds-on : (rounds : ℕ) (R : Rows) (out : ℕ) (square : List (List Cost))
+    → roundsOf (suc rounds) R out square ≡ roundOf R out (roundsOf rounds R out square)
 unfolding roundsOf
-rounds-on zero n low high weight out square = refl
-rounds-on (suc rounds) n low high weight out square = rounds-on rounds n low high weight out (roundOf n low high weight out square)
+rounds-on zero R out square = refl
+rounds-on (suc rounds) R out square = rounds-on rounds R out (roundOf R out square)

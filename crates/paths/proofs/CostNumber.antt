@@ -21,8 +21,8 @@ use Rattle.graph.proofs.Sum.{pair-le, less-pair, pigeonhole}
 use Rattle.graph.proofs.Order.{LinksOnce, cost-pair, set-below, chain-numbered}
 use Rattle.graph.proofs.Rounds.{Column, Known, no-entry}
 use Rattle.net.specs.Limits.{mostLinks, mostWeight}
-use Rattle.net.specs.Check.{pick}
-use Rattle.paths.specs.Cost.{unknown, noCost, isKnown, before, extended, lesserOf}
+use Rattle.net.specs.Choice.{pick}
+use Rattle.paths.specs.inner.Cost.{unknown, noCost, isKnown, before, extended, lesserOf}
 use Rattle.paths.specs.declared.cost.Cost.{Cost}
 
 -- what the code's numbers have room for
