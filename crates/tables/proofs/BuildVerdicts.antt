@@ -1,69 +1,54 @@
 -- What the builder's checks tell: the verdict is the network's, where that refuses; else it is 14 where a table is short; and where
 -- nothing is refused the network is accepted and every table is long enough.
-use Prim.Native.Nat.{ℕ, _*_, _≤_}
-use mathlib.Core.Bool.{Bool, true, false}
-use mathlib.Core.Path.{_≡_, refl, sym, ap, _∙_}
+use mathlib.Core.Bool.{true, false}
+use mathlib.Core.Path.{_≡_, sym, ap, _∙_}
 use mathlib.Core.Logic.{_≢_}
-use mathlib.Core.List.{List}
 use native.Mathlib.Omega.{arith}
-use borrow.Author.Tests.{ltb-false}
 use lib.ListN.{length}
 use Rattle.net.specs.Refusals.{accepted, tableLength}
-use Rattle.net.specs.Check.{either, checkNetwork, verdict, Accepted}
-use Rattle.net.specs.Entry.{tablesShort}
+use Rattle.net.specs.Rows.{Rows}
+use Rattle.net.specs.Check.{checkNetwork, verdict, Accepted}
 use Rattle.net.specs.declared.check.Verdict.{Verdict}
 use Rattle.net.proofs.Accepted.{accepts-check, check-accepts}
 use Rattle.net.proofs.Verdicts.{or-else-first, or-else-second, first-accepted, second-accepted, not-refused, is-refused, passed-test}
+use Rattle.tables.specs.Lent.{LentTables, tablesShort, LongEnough}
 use Rattle.tables.specs.Build.{buildVerdict}
+use Rattle.tables.proofs.Lengths.{tables-long}
 
-neither : (a b : Bool) → either a b ≡ false → (a ≡ false) × (b ≡ false)
-neither true b e = absurd (let z : _≡_ {A = ℕ} 0 1 = cc in omega arith)
-neither false b e = (refl, e)
+module _ (R : Rows) where
+  open Rows R using (nodes as n, low)
 
--- the code's verdict on the network
-module _ (n : ℕ) (low high weight : List ℕ) {v : Verdict} (is : v ≡ checkNetwork n low high weight) where
-  checked : v .number ≡ accepted → checkNetwork n low high weight .number ≡ accepted
-  checked free = sym (ap (λ (u : Verdict). u .number) is) ∙ free
+  -- the code's verdict on the network
+  module _ {v : Verdict} (is : v ≡ checkNetwork R) where
+    checked : v .number ≡ accepted → checkNetwork R .number ≡ accepted
+    checked free = sym (ap (λ (u : Verdict). u .number) is) ∙ free
 
-  pub network-accepted : v .number ≡ accepted → Accepted n low high weight
-  network-accepted free = check-accepts n low high weight (checked free)
+    pub network-accepted : v .number ≡ accepted → Accepted R
+    network-accepted free = check-accepts R (checked free)
 
-  module _ (routing forwarding backwarding : List ℕ) where
-    pub network-refused : v .number ≢ accepted → v ≡ buildVerdict n low high weight routing forwarding backwarding
+    module _ (T : LentTables) where
+      pub network-refused : v .number ≢ accepted → v ≡ buildVerdict R T
+      unfolding buildVerdict
+      network-refused refusal = is ∙ sym (or-else-first _ _ (λ e. refusal (ap (λ (u : Verdict). u .number) is ∙ e)))
+
+      pub tables-refused : v .number ≡ accepted → tablesShort n (length low) T ≡ true → verdict tableLength ≡ buildVerdict R T
+      unfolding buildVerdict
+      tables-refused free short = sym (or-else-second _ _ (checked free) ∙ is-refused tableLength short)
+
+      pub tables-accepted : v .number ≡ accepted → tablesShort n (length low) T ≡ false → v ≡ buildVerdict R T
+      unfolding buildVerdict
+      tables-accepted free long =
+          is ∙ accepts-check R (network-accepted free) ∙ sym (or-else-second _ _ (checked free) ∙ not-refused tableLength long)
+
+  -- its verdict on all of it
+  module _ (T : LentTables) {v : Verdict} (is : v ≡ buildVerdict R T) (free : v .number ≡ accepted) where
+    whole : buildVerdict R T .number ≡ accepted
+    whole = sym (ap (λ (u : Verdict). u .number) is) ∙ free
+
+    pub build-accepted : Accepted R
     unfolding buildVerdict
-    network-refused refusal = is ∙ sym (or-else-first _ _ (λ e. refusal (ap (λ (u : Verdict). u .number) is ∙ e)))
+    build-accepted = check-accepts R (first-accepted _ _ whole)
 
-    pub tables-refused : v .number ≡ accepted → tablesShort n (length low) routing forwarding backwarding ≡ true
-        → verdict tableLength ≡ buildVerdict n low high weight routing forwarding backwarding
+    pub build-room : LongEnough n (length low) T
     unfolding buildVerdict
-    tables-refused free short = sym (or-else-second _ _ (checked free) ∙ is-refused tableLength short)
-
-    pub tables-accepted : v .number ≡ accepted → tablesShort n (length low) routing forwarding backwarding ≡ false
-        → v ≡ buildVerdict n low high weight routing forwarding backwarding
-    unfolding buildVerdict
-    tables-accepted free long =
-        is ∙ accepts-check n low high weight (network-accepted free) ∙ sym (or-else-second _ _ (checked free) ∙ not-refused tableLength long)
-
--- its verdict on all of it
-module _ (n : ℕ) (low high weight routing forwarding backwarding : List ℕ) {v : Verdict}
-    (is : v ≡ buildVerdict n low high weight routing forwarding backwarding) (free : v .number ≡ accepted) where
-  whole : buildVerdict n low high weight routing forwarding backwarding .number ≡ accepted
-  whole = sym (ap (λ (u : Verdict). u .number) is) ∙ free
-
-  network-free : checkNetwork n low high weight .number ≡ accepted
-  unfolding buildVerdict
-  network-free = first-accepted _ _ whole
-
-  pub build-accepted : Accepted n low high weight
-  build-accepted = check-accepts n low high weight network-free
-
-  tables-long : tablesShort n (length low) routing forwarding backwarding ≡ false
-  unfolding buildVerdict
-  tables-long = passed-test _ tableLength (λ e. omega arith) (second-accepted _ _ whole)
-
-  pub build-room : (n * n ≤ length routing) × (2 * length low * n ≤ length forwarding) × (2 * length low * n ≤ length backwarding)
-  unfolding tablesShort
-  build-room =
-      let (in-routing, others) = neither _ _ tables-long in
-      let (in-forwarding, in-backwarding) = neither _ _ others in
-      (ltb-false _ _ in-routing, ltb-false _ _ in-forwarding, ltb-false _ _ in-backwarding)
+    build-room = tables-long (passed-test _ tableLength (λ e. omega arith) (second-accepted _ _ whole))

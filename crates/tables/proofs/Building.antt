@@ -8,11 +8,12 @@ use native.Mathlib.Numerals.{add-one}
 use native.Mathlib.Omega.{arith}
 use borrow.Rule.Slice.PartMut.{putMid, post-is}
 use lib.ListN.{length, getD}
-use Rattle.paths.specs.Cost.{noCost}
+use Rattle.paths.specs.inner.Cost.{noCost}
 use Rattle.paths.specs.declared.cost.Cost.{Cost}
 use Rattle.paths.proofs.Shape.{within}
 use Rattle.tables.specs.Entry.{Filled}
-use Rattle.tables.specs.Fill.{entryRow, forwardCost}
+use Rattle.tables.specs.inner.EntryRow.{entryRow}
+use Rattle.tables.specs.inner.Detours.{forwardCost}
 use Rattle.tables.proofs.Filling.{filled-more, entry-row-length}
 
 -- where the next row starts

@@ -3,8 +3,7 @@
 -- set that of the key links, and entries are unique.
 use Prim.Native.Nat.{ℕ, _*_, _<_}
 use mathlib.Core.Path.{_≡_, ap, _∙_}
-use mathlib.Core.List.{List}
-use borrow.Author.Tests.{le-ltb, lt-leb}
+use borrow.Author.Tests.{lt-leb}
 use lib.ListN.{length}
 use lib.Dec.{leb}
 use Rattle.graph.specs.Network.{Network, WellFormed}
@@ -12,32 +11,33 @@ use Rattle.graph.specs.Entries.{Entry}
 use Rattle.graph.proofs.Entries.{entry-one}
 use Rattle.net.specs.Refusals.{accepted, tableLength, interfaceNumber, nodeNumber}
 use Rattle.net.specs.Check.{Accepted, verdict, checkNetwork, orElse, refusedIf}
-use Rattle.net.specs.Entry.{EntryByte, tablesShort}
+use Rattle.net.specs.Rows.{Rows}
+use Rattle.net.specs.Entry.{EntryByte}
 use Rattle.net.specs.declared.check.Verdict.{Verdict}
 use Rattle.net.proofs.Accepted.{accepts-check, well-formed}
 use Rattle.net.proofs.Verdicts.{or-else-second, not-refused}
 use Rattle.tables.specs.Key.{keyLinksVerdict}
 use Rattle.tables.specs.Build.{buildVerdict, BuildAnswer}
-use Rattle.tables.specs.Demand2.{TheEntry, LongEnough, Demand2}
+use Rattle.tables.specs.Lent.{LentTables, LongEnough}
+use Rattle.tables.specs.Demand2.{TheEntry, Demand2}
+use Rattle.tables.proofs.Lengths.{long-tables}
 
 -- a byte that is an entry's is the byte of the only one
 the-entry : {N : Network} → WellFormed N → {X : ℕ → Type 0} {i d byte : ℕ} → EntryByte N X i d byte → TheEntry N (Entry N X i d) byte
 the-entry {N} W t = record { hop = t .hop; defined = t .entry; only = λ other e. entry-one N W e (t .entry); is = t .is }
 
-module _ (n : ℕ) (low high weight : List ℕ) (A : Accepted n low high weight) where
+module _ (R : Rows) (A : Accepted R) where
+  open Rows R using (nodes as n, low)
+
   -- after the check of an accepted network the next check decides
-  check-passed : (next : Verdict) → orElse (checkNetwork n low high weight) next ≡ next
-  check-passed next = or-else-second _ next (ap (λ (v : Verdict). v .number) (accepts-check n low high weight A))
+  check-passed : (next : Verdict) → orElse (checkNetwork R) next ≡ next
+  check-passed next = or-else-second _ next (ap (λ (v : Verdict). v .number) (accepts-check R A))
 
-  tables-pass : {routing forwarding backwarding : List ℕ} → LongEnough n (length low) routing forwarding backwarding
-      → buildVerdict n low high weight routing forwarding backwarding ≡ verdict accepted
-  unfolding buildVerdict tablesShort
-  tables-pass {routing} {forwarding} {backwarding} room =
-      check-passed _
-      ∙ not-refused tableLength
-      (simp (le-ltb _ _ (room .for-routing), le-ltb _ _ (room .for-forwarding), le-ltb _ _ (room .for-backwarding)))
+  tables-pass : {T : LentTables} → LongEnough n (length low) T → buildVerdict R T ≡ verdict accepted
+  unfolding buildVerdict
+  tables-pass room = check-passed _ ∙ not-refused tableLength (long-tables room)
 
-  numbers-pass : {h d : ℕ} → h < 2 * length low → d < n → keyLinksVerdict n low high weight h d ≡ verdict accepted
+  numbers-pass : {h d : ℕ} → h < 2 * length low → d < n → keyLinksVerdict R h d ≡ verdict accepted
   unfolding keyLinksVerdict
   numbers-pass {h} {d} interface destination =
       let passed : refusedIf (leb (2 * length low) h) interfaceNumber ≡ verdict accepted =
@@ -46,12 +46,10 @@ module _ (n : ℕ) (low high weight : List ℕ) (A : Accepted n low high weight)
       ∙ or-else-second _ _ (ap (λ (v : Verdict). v .number) passed)
       ∙ not-refused nodeNumber (lt-leb _ _ destination)
 
-  pub demand-2 : {routing forwarding backwarding routing′ forwarding′ backwarding′ : List ℕ} {r : Verdict}
-      → LongEnough n (length low) routing forwarding backwarding
-      → BuildAnswer n low high weight routing forwarding backwarding r routing′ forwarding′ backwarding′
-      → Demand2 n low high weight r routing′ forwarding′ backwarding′
+  pub demand-2 : {before after : LentTables} {r : Verdict} → LongEnough n (length low) before → BuildAnswer R before r after
+      → Demand2 R r after
   demand-2 {r = r} room answer =
-      let W = well-formed n low high weight A in
+      let W = well-formed R A in
       let number : r .number ≡ accepted = ap (λ (v : Verdict). v .number) (answer .verdict ∙ tables-pass room) in
       let built = answer .built number in
       record {

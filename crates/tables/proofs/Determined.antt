@@ -1,6 +1,6 @@
--- The contracts of `key_links`, of the row look-up and of the builder determine their answers and what the builder leaves in the lent tables: two answers
--- that a contract allows for the same inputs are equal. After a refusal the contract says every part; else a set is told by its
--- members, and a table by its bytes in the rows, each the byte of one entry, and by the bytes beyond them.
+-- The contracts of `key_links`, of the row look-up and of the builder determine their answers and what the builder leaves in the lent
+-- tables: two answers that a contract allows for the same inputs are equal. After a refusal the contract says every part; else a set is
+-- told by its members, and a table by its bytes in the rows, each the byte of one entry, and by the bytes beyond them.
 use Prim.Native.Nat.{ℕ}
 use mathlib.Core.Path.{_≡_, sym, ap, _∙_}
 use mathlib.Core.List.{List}
@@ -8,27 +8,25 @@ use native.Mathlib.Decide.{ℕ-discrete}
 use Rattle.graph.specs.Network.{WellFormed}
 use Rattle.graph.proofs.Sets.{set-one}
 use Rattle.net.specs.Refusals.{accepted}
-use Rattle.net.specs.Rows.{networkOf}
+use Rattle.net.specs.Rows.{Rows, networkOf}
 use Rattle.net.specs.declared.check.Verdict.{Verdict}
-use Rattle.net.proofs.Accepted.{check-accepts, well-formed}
-use Rattle.net.proofs.Verdicts.{first-accepted}
+use Rattle.net.proofs.Accepted.{well-formed}
 use Rattle.net.proofs.Bytes.{byte-one}
+use Rattle.tables.specs.Lent.{LentTables}
 use Rattle.tables.specs.Key.{KeyLinksAnswer}
 use Rattle.tables.specs.Build.{buildVerdict, BuildAnswer}
 use Rattle.tables.specs.Row.{rowCheck, rowOf}
 use Rattle.tables.specs.declared.key.KeyLinks.{KeyLinks}
 use Rattle.tables.proofs.Filling.{filled-one}
+use Rattle.tables.proofs.BuildVerdicts.{build-accepted}
 
 -- two of the builder's answers, with the tables that they leave
-pub record SameBuild (x y : Verdict) (routing₁ forwarding₁ backwarding₁ routing₂ forwarding₂ backwarding₂ : List ℕ) : Type 0 where
+pub record SameBuild (x y : Verdict) (T U : LentTables) : Type 0 where
   pub verdict : x ≡ y
-  pub routing : routing₁ ≡ routing₂
-  pub forwarding : forwarding₁ ≡ forwarding₂
-  pub backwarding : backwarding₁ ≡ backwarding₂
+  pub tables : T ≡ U
 
-module _ (n : ℕ) (low high weight : List ℕ) where
-  pub key-links-answer-one : {h d : ℕ} {x y : KeyLinks}
-      → KeyLinksAnswer n low high weight h d x → KeyLinksAnswer n low high weight h d y → x ≡ y
+module _ (R : Rows) where
+  pub key-links-answer-one : {h d : ℕ} {x y : KeyLinks} → KeyLinksAnswer R h d x → KeyLinksAnswer R h d y → x ≡ y
   key-links-answer-one {x = x} {y = y} a b =
       let number : x .number ≡ y .number = a .number ∙ sym (b .number) in
       let place : x .place ≡ y .place = a .place ∙ sym (b .place) in
@@ -40,20 +38,13 @@ module _ (n : ℕ) (low high weight : List ℕ) where
       equal : x .number ≡ y .number → x .place ≡ y .place → x .links ≡ y .links → x ≡ y
       equal number place links = λ t. record { number = number t; place = place t; links = links t }
 
-  module _ (routing forwarding backwarding : List ℕ) where
+  module _ (before : LentTables) where
     -- the builder accepts only networks that the mathematics speaks of
-    built-well-formed : {r : Verdict} → r ≡ buildVerdict n low high weight routing forwarding backwarding → r .number ≡ accepted
-        → WellFormed (networkOf n low high weight)
-    unfolding buildVerdict
-    built-well-formed v e =
-        well-formed n low high weight
-        (check-accepts n low high weight (first-accepted _ _ (sym (ap (λ (r : Verdict). r .number) v) ∙ e)))
+    built-well-formed : {r : Verdict} → r ≡ buildVerdict R before → r .number ≡ accepted → WellFormed (networkOf R)
+    built-well-formed v e = well-formed R (build-accepted R before v e)
 
-    pub build-answer-one : {x y : Verdict} {routing₁ forwarding₁ backwarding₁ routing₂ forwarding₂ backwarding₂ : List ℕ}
-        → BuildAnswer n low high weight routing forwarding backwarding x routing₁ forwarding₁ backwarding₁
-        → BuildAnswer n low high weight routing forwarding backwarding y routing₂ forwarding₂ backwarding₂
-        → SameBuild x y routing₁ forwarding₁ backwarding₁ routing₂ forwarding₂ backwarding₂
-    build-answer-one {x} {y} a b =
+    pub build-answer-one : {x y : Verdict} {T U : LentTables} → BuildAnswer R before x T → BuildAnswer R before y U → SameBuild x y T U
+    build-answer-one {x} {y} {T} {U} a b =
         let verdict : x ≡ y = a .verdict ∙ sym (b .verdict) in
         let number : x .number ≡ y .number = ap (λ (r : Verdict). r .number) verdict in
         elim (ℕ-discrete (x .number) accepted) [
@@ -63,20 +54,17 @@ module _ (n : ℕ) (low high weight : List ℕ) where
               let t = b .built (sym number ∙ e) in
               record {
                 verdict = verdict;
-                routing = filled-one (λ i d u v node destination p q. byte-one W p q) (s .routes) (t .routes);
-                forwarding = filled-one (λ h d u v interface destination p q. byte-one W p q) (s .forwards) (t .forwards);
-                backwarding = filled-one (λ h d u v interface destination p q. byte-one W p q) (s .backwards) (t .backwards);
+                tables = equal
+                    (filled-one (λ i d u v node destination p q. byte-one W p q) (s .routes) (t .routes))
+                    (filled-one (λ h d u v interface destination p q. byte-one W p q) (s .forwards) (t .forwards))
+                    (filled-one (λ h d u v interface destination p q. byte-one W p q) (s .backwards) (t .backwards));
               }
-          | no n ↦
-              let s = a .refused n in
-              let t = b .refused (λ e. n (number ∙ e)) in
-              record {
-                verdict = verdict;
-                routing = s .0 ∙ sym (t .0);
-                forwarding = s .1 ∙ sym (t .1);
-                backwarding = s .2 ∙ sym (t .2);
-              }
+          | no n ↦ record { verdict = verdict; tables = a .refused n ∙ sym (b .refused (λ e. n (number ∙ e))) }
         ]
+      where
+        equal : T .routing ≡ U .routing → T .forwarding ≡ U .forwarding → T .backwarding ≡ U .backwarding → T ≡ U
+        equal routing forwarding backwarding =
+            λ t. record { routing = routing t; forwarding = forwarding t; backwarding = backwarding t }
 
 -- the row look-up and its check say what they answer
 module _ (table : List ℕ) (n i : ℕ) where

@@ -7,27 +7,29 @@ use mathlib.Core.Logic.{_⊎_, inl, inr, _≢_, _↔_}
 use mathlib.Core.List.{List, [], _∷_}
 use native.Mathlib.Decide.{ℕ-discrete, decLt}
 use native.Mathlib.Omega.{arith}
-use borrow.Author.Tests.{eq-eqb, ne-eqb}
+use borrow.Author.Tests.{ne-eqb}
 use lib.ListN.{length, getD, replicate, getD-replicate}
 use Rattle.graph.specs.Network.{Network, WellFormed, link, reverse, tail, head}
 use Rattle.graph.specs.Path.{BestPath, But, weightSum}
 use Rattle.graph.specs.Set.{linkSet}
 use Rattle.graph.specs.Entries.{KeyLink}
-use Rattle.graph.proofs.Interfaces.{link-reverse, tail-reverse, head-reverse, head-node}
+use Rattle.graph.proofs.Interfaces.{link-reverse, tail-reverse, head-reverse}
 use Rattle.graph.proofs.Chain.{Best, best-after, first-present, first-tail}
 use Rattle.graph.proofs.Agreement.{path-best, best-path}
 use Rattle.net.specs.Limits.{mostNodes}
-use Rattle.net.specs.Check.{pick}
-use Rattle.net.specs.Rows.{networkOf}
-use Rattle.net.proofs.Rows.{head-of}
-use Rattle.paths.specs.Cost.{unknown, noCost, before}
-use Rattle.paths.specs.Square.{cell, Shows, BestSquare}
+use Rattle.net.specs.Choice.{pick}
+use Rattle.net.specs.Rows.{Rows, networkOf}
+use Rattle.net.proofs.Rows.{row-present, head-of}
+use Rattle.net.proofs.Accepted.{well-formed}
+use Rattle.paths.specs.inner.Cost.{unknown, noCost, before}
+use Rattle.paths.specs.inner.Square.{cell, Shows, BestSquare}
 use Rattle.paths.specs.declared.cost.Cost.{Cost}
-use Rattle.paths.proofs.Pair.{Lower, before?}
+use Rattle.paths.proofs.CostNumber.{Lower, before?}
 use Rattle.paths.proofs.BestSquare.{shows-all}
-use Rattle.paths.proofs.Shown.{known-true, known-false, shown-best, shown-onward, weighs-something}
-use Rattle.tables.specs.Key.{keyTest}
-use Rattle.tables.specs.Fill.{aheadOf, dearerOf, noted, Dearest, no-key, dearest, noDetours, Detours}
+use Rattle.paths.proofs.SquareEntry.{known-true, shown-best, shown-onward, weighs-something}
+use Rattle.tables.specs.inner.KeyTest.{keyTest}
+use Rattle.tables.specs.inner.Detours.{aheadOf, dearerOf, noted, Dearest, no-key, dearest, noDetours, Detours}
+use Rattle.tables.specs.inner.Given.{Trying}
 use Rattle.tables.proofs.KeyTest.{key-test-by-squares}
 
 -- the pair of a sum and a set is not above the cost
@@ -134,57 +136,47 @@ noted-away : (i d : ℕ) (kept whole after ahead one other : Cost) → i ≢ d
 unfolding noted
 noted-away i d kept whole after ahead one other away = simp (ne-eqb i d away)
 
-module _ (n : ℕ) (low high weight : List ℕ) where
+-- what is kept of i and d, by the two squares, after link k was tried
+abbrev pub noting : Rows → ℕ → List (List Cost) → List (List Cost) → ℕ → ℕ → Cost → Cost
+noting R k all without i d kept =
+    noted i d kept (cell all i d) (cell without i d) (cell without (aheadOf (R .low) (R .high) i d (cell all i d)) d)
+    (cell without (getD (R .low) k 0) d) (cell without (getD (R .high) k 0) d)
+
+module _ (R : Rows) where
+  open Rows R using (nodes as n, low, high)
+
   -- the node after i is the one that its first interface enters
-  pub ahead-is : (i d : ℕ) (c : Cost) → i ≢ d → c .sum < unknown → aheadOf low high i d c ≡ head (networkOf n low high weight) (c .first)
+  pub ahead-is : (i d : ℕ) (c : Cost) → i ≢ d → c .sum < unknown → aheadOf low high i d c ≡ head (networkOf R) (c .first)
   unfolding aheadOf
-  ahead-is i d c away known = simp (ne-eqb i d away, known-true c .1 known) (sym (head-of n low high weight (c .first)))
+  ahead-is i d c away known = simp (ne-eqb i d away, known-true c .1 known) (sym (head-of R (c .first)))
 
-  -- and a node
-  pub ahead-node : WellFormed (networkOf n low high weight) → (all : List (List Cost))
-      → BestSquare (networkOf n low high weight) (length low) all → {i d : ℕ} → i < n → d < n → aheadOf low high i d (cell all i d) < n
-  unfolding aheadOf
-  ahead-node W all whole {i} {d} node destination =
-      elim (ℕ-discrete i d) [
-        | yes e ↦ rw (eq-eqb i d e) (omega arith)
-        | no away ↦ elim (decLt (cell all i d .sum) unknown) [
-          | no h ↦ rw (ne-eqb i d away, known-false (cell all i d) .1 (omega arith)) (omega arith)
-          | yes known ↦
-              let N = networkOf n low high weight in
-              let (p, m) = shown-onward N W (whole i d node destination) away known in
-              rw (ahead-is i d (cell all i d) away known) (head-node N W _ (first-present N (m .best .chain)))
-        ]
-      ]
+  -- one link more, for one node and destination
+  pub noted-dearest : WellFormed (networkOf R) → {k : ℕ} → k < length low → (all without : List (List Cost))
+      → BestSquare (networkOf R) (length low) all → BestSquare (networkOf R) k without
+      → (i d : ℕ) → i < n → d < n → i ≢ d → cell all i d .sum < unknown → (c : Cost)
+      → Dearest (networkOf R) i d (reverse (cell all i d .first)) k c
+      → Dearest (networkOf R) i d (reverse (cell all i d .first)) (suc k) (noting R k all without i d c)
+  noted-dearest W {k} present all without whole less i d node destination away known c D =
+      let N = networkOf R in
+      let shown = shows-all N W (length low) (omega arith) (whole i d node destination) in
+      let (p, m) = shown-onward N W shown away known in
+      let f = cell all i d .first in
+      let up : N .Present (link f) = first-present N (m .best .chain) in
+      let enters : head N (reverse f) ≡ i = head-reverse N f ∙ first-tail N (m .best .chain) in
+      let leaves : tail N (reverse f) ≡ aheadOf low high i d (cell all i d) =
+      tail-reverse N f ∙ sym (ahead-is i d (cell all i d) away known) in
+      let tells =
+      key-test-by-squares R W all without (row-present R k present) whole less (reverse f) (rw (link-reverse f) up)
+      enters leaves away destination in
+      rw (noted-away i d c (cell all i d) (cell without i d) (cell without (aheadOf low high i d (cell all i d)) d)
+      (cell without (getD low k 0) d) (cell without (getD high k 0) d) away)
+      (dearest-more N W (less i d node destination) away _ tells enters D)
 
-  module _ (W : WellFormed (networkOf n low high weight)) {k : ℕ} (present : k < length low) (all without : List (List Cost))
-      (whole : BestSquare (networkOf n low high weight) (length low) all) (less : BestSquare (networkOf n low high weight) k without) where
-    -- one link more, for one node and destination
-    pub noted-dearest : (i d : ℕ) → i < n → d < n → i ≢ d → cell all i d .sum < unknown → (c : Cost)
-        → Dearest (networkOf n low high weight) i d (reverse (cell all i d .first)) k c
-        → Dearest (networkOf n low high weight) i d (reverse (cell all i d .first)) (suc k)
-        (noted i d c (cell all i d) (cell without i d) (cell without (aheadOf low high i d (cell all i d)) d)
-        (cell without (getD low k 0) d) (cell without (getD high k 0) d))
-    noted-dearest i d node destination away known c D =
-        let N = networkOf n low high weight in
-        let shown = shows-all N W (length low) (omega arith) (whole i d node destination) in
-        let (p, m) = shown-onward N W shown away known in
-        let f = cell all i d .first in
-        let up : N .Present (link f) = first-present N (m .best .chain) in
-        let enters : head N (reverse f) ≡ i = head-reverse N f ∙ first-tail N (m .best .chain) in
-        let leaves : tail N (reverse f) ≡ aheadOf low high i d (cell all i d) =
-        tail-reverse N f ∙ sym (ahead-is i d (cell all i d) away known) in
-        let tells =
-        key-test-by-squares n low high weight W all without present whole less (reverse f) (rw (link-reverse f) up)
-        enters leaves away destination in
-        rw (noted-away i d c (cell all i d) (cell without i d) (cell without (aheadOf low high i d (cell all i d)) d)
-        (cell without (getD low k 0) d) (cell without (getD high k 0) d) away)
-        (dearest-more N W (less i d node destination) away _ tells enters D)
-
-    -- one link more, for all of them
-    pub detours-more : (kept next : List (List Cost)) → Detours (networkOf n low high weight) k all kept
-        → ((i d : ℕ) → i < n → d < n → cell next i d
-        ≡ noted i d (cell kept i d) (cell all i d) (cell without i d) (cell without (aheadOf low high i d (cell all i d)) d)
-        (cell without (getD low k 0) d) (cell without (getD high k 0) d))
-        → Detours (networkOf n low high weight) (suc k) all next
-    detours-more kept next D step i d node destination away known =
-        rw (step i d node destination) (noted-dearest i d node destination away known (cell kept i d) (D i d node destination away known))
+  -- one link more, for all of them
+  pub detours-more : {k : ℕ} {all without kept : List (List Cost)} → Trying R k all without kept → (next : List (List Cost))
+      → ((i d : ℕ) → i < n → d < n → cell next i d ≡ noting R k all without i d (cell kept i d))
+      → Detours (networkOf R) (suc k) all next
+  detours-more {all = all} {without = without} {kept = kept} G next changed i d node destination away known =
+      rw (changed i d node destination)
+      (noted-dearest (well-formed R (G .network)) (G .row) all without (G .square) (G .square-without) i d node destination away known
+      (cell kept i d) (G .detours i d node destination away known))

@@ -8,10 +8,10 @@ use native.Mathlib.Decide.{ℕ-discrete, decLt}
 use native.Mathlib.Omega.{arith}
 use lib.ListN.{length, getD, take, drop, length-append, length-drop, List·getD-append}
 use lib.Seq.{length-take-le, getD-take, getD-drop, getD-append-add, drop-at, drop-drop, ext-getD}
-use Rattle.paths.specs.Cost.{noCost}
+use Rattle.paths.specs.inner.Cost.{noCost}
 use Rattle.paths.specs.declared.cost.Cost.{Cost}
 use Rattle.tables.specs.Entry.{Filled}
-use Rattle.tables.specs.Fill.{entryByte, entryRow}
+use Rattle.tables.specs.inner.EntryRow.{entryByte, entryRow}
 
 module _ {n : ℕ} {Byte : ℕ → ℕ → ℕ → Type 0} where
   pub filled-start : (table : List ℕ) → Filled n 0 Byte table table

@@ -20,11 +20,11 @@ use Rattle.graph.proofs.Agreement.{path-best, best-path}
 use Rattle.graph.proofs.Keys.{over-all}
 use Rattle.graph.proofs.Entries.{best-entry, forwarding-by-routing, elsewhere-has-no-key}
 use Rattle.graph.proofs.Dearest.{dearest-is-free}
-use Rattle.paths.specs.Cost.{unknown, isKnown}
-use Rattle.paths.specs.Square.{Shows}
+use Rattle.paths.specs.inner.Cost.{unknown, isKnown}
+use Rattle.paths.specs.inner.Square.{Shows}
 use Rattle.paths.specs.declared.cost.Cost.{Cost}
-use Rattle.paths.proofs.Shown.{known-true, Tells, leads, leads-nowhere, shown-unknown, shown-onward, weighs-something}
-use Rattle.tables.specs.Fill.{forwardCost, Dearest, no-key, dearest}
+use Rattle.paths.proofs.SquareEntry.{known-true, Tells, leads, leads-nowhere, shown-unknown, shown-onward, weighs-something}
+use Rattle.tables.specs.inner.Detours.{forwardCost, Dearest, no-key, dearest}
 use Rattle.tables.proofs.Detours.{Within}
 
 -- the cost to forward by, case by case

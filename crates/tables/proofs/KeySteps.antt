@@ -4,20 +4,24 @@ use Prim.Native.Nat.{ℕ, _*_, _^_, _/_, _≤_, _<_}
 use mathlib.Core.Bool.{Bool, true, false}
 use mathlib.Core.Path.{_≡_, refl, sym, ap, _∙_}
 use mathlib.Core.Logic.{_≢_}
-use mathlib.Core.List.{List}
 use native.Mathlib.Nat.{div-eq-of-lt, pow-le-pow-right}
 use native.Mathlib.Omega.{arith}
 use borrow.Author.Tests.{le-leb, lt-leb, leb-false}
 use lib.Dec.{leb}
 use lib.ListN.{length}
+use Rattle.graph.specs.Network.{link}
 use Rattle.net.specs.Limits.{mostLinks}
 use Rattle.net.specs.Refusals.{accepted, interfaceNumber, nodeNumber}
-use Rattle.net.specs.Check.{both, verdict, checkNetwork, refusedIf, Accepted}
+use Rattle.net.specs.Choice.{both}
+use Rattle.net.specs.Check.{verdict, checkNetwork, refusedIf}
+use Rattle.net.specs.Rows.{Rows}
 use Rattle.net.proofs.Accepted.{accepts-check, check-accepts}
 use Rattle.net.proofs.Verdicts.{or-else-first, or-else-second, first-accepted, second-accepted, is-refused, not-refused, passed-test}
-use Rattle.paths.specs.Cost.{isKnown}
+use Rattle.paths.specs.inner.Cost.{isKnown}
 use Rattle.paths.specs.declared.cost.Cost.{Cost}
-use Rattle.tables.specs.Key.{hasLink, keyLinksVerdict}
+use Rattle.tables.specs.Key.{keyLinksVerdict}
+use Rattle.tables.specs.inner.KeyTest.{hasLink}
+use Rattle.tables.specs.inner.Given.{Asked}
 
 both-false : (b : Bool) → both b false ≡ false
 both-false true = refl
@@ -30,15 +34,16 @@ has-link-past c k small past =
     let none : c .links / 2 ^ k ≡ 0 = div-eq-of-lt (omega arith) in
     rw none (both-false (isKnown c))
 
-module _ (n : ℕ) (low high weight : List ℕ) (h d : ℕ) where
-  pub network-refused : checkNetwork n low high weight .number ≢ accepted
-      → keyLinksVerdict n low high weight h d ≡ checkNetwork n low high weight
+module _ (R : Rows) (h d : ℕ) where
+  open Rows R using (nodes as n, low)
+
+  pub network-refused : checkNetwork R .number ≢ accepted → keyLinksVerdict R h d ≡ checkNetwork R
   unfolding keyLinksVerdict
   network-refused refused = or-else-first _ _ refused
 
-  module _ (passed : checkNetwork n low high weight .number ≡ accepted) where
-    pub interface-refused : length low ≤ h / 2 → keyLinksVerdict n low high weight h d ≡ verdict interfaceNumber
-    unfolding keyLinksVerdict
+  module _ (passed : checkNetwork R .number ≡ accepted) where
+    pub interface-refused : length low ≤ link h → keyLinksVerdict R h d ≡ verdict interfaceNumber
+    unfolding keyLinksVerdict link
     interface-refused past =
         let test : leb (2 * length low) h ≡ true = le-leb (2 * length low) h (omega arith) in
         let refusal = is-refused interfaceNumber test in
@@ -46,43 +51,39 @@ module _ (n : ℕ) (low high weight : List ℕ) (h d : ℕ) where
         λ e. omega (arith, ap (λ v. v .number) refusal, e) in
         or-else-second _ _ passed ∙ or-else-first _ _ refuses ∙ refusal
 
-    module _ (interface : h / 2 < length low) where
+    module _ (interface : link h < length low) where
       interface-passed : refusedIf (leb (2 * length low) h) interfaceNumber ≡ verdict accepted
+      unfolding link
       interface-passed = not-refused interfaceNumber (lt-leb (2 * length low) h (omega arith))
 
       -- the destination decides
-      destination-left : keyLinksVerdict n low high weight h d ≡ refusedIf (leb n d) nodeNumber
+      destination-left : keyLinksVerdict R h d ≡ refusedIf (leb n d) nodeNumber
       unfolding keyLinksVerdict
       destination-left = or-else-second _ _ passed ∙ or-else-second _ _ (ap (λ v. v .number) interface-passed)
 
-      pub destination-refused : n ≤ d → keyLinksVerdict n low high weight h d ≡ verdict nodeNumber
+      pub destination-refused : n ≤ d → keyLinksVerdict R h d ≡ verdict nodeNumber
       destination-refused past = destination-left ∙ is-refused nodeNumber (le-leb _ _ past)
 
-      pub keys-accepted : d < n → keyLinksVerdict n low high weight h d ≡ checkNetwork n low high weight
+      pub keys-accepted : d < n → keyLinksVerdict R h d ≡ checkNetwork R
       keys-accepted node =
-          destination-left ∙ not-refused nodeNumber (lt-leb _ _ node)
-          ∙ sym (accepts-check n low high weight (check-accepts n low high weight passed))
+          destination-left ∙ not-refused nodeNumber (lt-leb _ _ node) ∙ sym (accepts-check R (check-accepts R passed))
 
   -- what an accepted call may rely on
-  pub record Asked : Type 0 where
-    pub network : Accepted n low high weight
-    pub interface : h < 2 * length low
-    pub destination : d < n
-
-  pub accepted-asked : keyLinksVerdict n low high weight h d .number ≡ accepted → Asked
+  pub accepted-asked : keyLinksVerdict R h d .number ≡ accepted → Asked R h d
   unfolding keyLinksVerdict
   accepted-asked e =
       let rest = second-accepted _ _ e in
       record {
-        network = check-accepts n low high weight (first-accepted _ _ e);
+        network = check-accepts R (first-accepted _ _ e);
         interface = leb-false _ _ (passed-test _ interfaceNumber (λ z. omega arith) (first-accepted _ _ rest));
         destination = leb-false _ _ (passed-test _ nodeNumber (λ z. omega arith) (second-accepted _ _ rest));
       }
 
   -- and its verdict names no place
-  pub accepted-verdict : keyLinksVerdict n low high weight h d .number ≡ accepted → keyLinksVerdict n low high weight h d ≡ verdict accepted
+  pub accepted-verdict : keyLinksVerdict R h d .number ≡ accepted → keyLinksVerdict R h d ≡ verdict accepted
+  unfolding link
   accepted-verdict e =
       let asked = accepted-asked e in
       let below = asked .interface in
-      let checked = accepts-check n low high weight (asked .network) in
+      let checked = accepts-check R (asked .network) in
       keys-accepted (ap (λ v. v .number) checked) (omega arith) (asked .destination) ∙ checked

@@ -19,14 +19,14 @@ use Rattle.graph.proofs.Chain.{Best, On, best-from, best-after, link-cost-posit
 use Rattle.graph.proofs.Agreement.{path-best, best-path}
 use Rattle.graph.proofs.Entries.{apart}
 use Rattle.graph.proofs.Finished.{on-lies, lies-on}
-use Rattle.net.specs.Rows.{networkOf}
-use Rattle.paths.specs.Cost.{unknown, isKnown, before}
-use Rattle.paths.specs.Square.{cell, Shows, BestSquare}
+use Rattle.net.specs.Rows.{Rows, Present, networkOf}
+use Rattle.paths.specs.inner.Cost.{unknown, isKnown, before}
+use Rattle.paths.specs.inner.Square.{cell, Shows, BestSquare}
 use Rattle.paths.specs.declared.cost.Cost.{Cost}
-use Rattle.paths.proofs.Pair.{Lower}
+use Rattle.paths.proofs.CostNumber.{Lower}
 use Rattle.paths.proofs.BestSquare.{shows-all}
-use Rattle.paths.proofs.Shown.{known-true, shown-known, shown-best, shown-onward, measured-set, lower-less}
-use Rattle.tables.specs.Key.{keyTest, hasLink}
+use Rattle.paths.proofs.SquareEntry.{known-true, shown-known, shown-best, shown-onward, measured-set, lower-less}
+use Rattle.tables.specs.inner.KeyTest.{keyTest, hasLink}
 use Rattle.tables.proofs.Tests.{both-true, either-true, has-link-true, before-true}
 
 -- the parts of the test
@@ -105,7 +105,8 @@ module _ (N : Network) (W : WellFormed N) where
       (at-low : Shows N (But k) (N .low k) d one) (at-high : Shows N (But k) (N .high k) d other) where
     -- a passed test with the link on the path of the tail of `from`
     key-from : {c : Cost} (from : ℕ) → link from ≡ k → Shows N (But k) (tail N from) d c
-        → (c .sum < unknown) × (bit (link h) (c .links) ≡ 1) → whole .sum < unknown → whole .first ≡ reverse h → Lower after ahead → KeyLink N d h k
+        → (c .sum < unknown) × (bit (link h) (c .links) ≡ 1) → whole .sum < unknown → whole .first ≡ reverse h → Lower after ahead
+        → KeyLink N d h k
     key-from from is shown (known, bit-set) routed returns falls =
         let (P, m) = shown-onward N W main away routed in
         let (p, s) = shown-known N W shown known in
@@ -163,19 +164,17 @@ module _ (N : Network) (W : WellFormed N) where
         (λ e. passed-key (parts .0 e), λ key. parts .1 (key-passed key))
 
 -- the test on the entries of the two squares, of all links and without link k
-pub key-test-by-squares : (n : ℕ) (low high weight : List ℕ) → WellFormed (networkOf n low high weight)
-    → (all without : List (List Cost)) {k : ℕ}
-    → k < length low → BestSquare (networkOf n low high weight) (length low) all → BestSquare (networkOf n low high weight) k without
-    → (h : ℕ) → link h < length low → {i j d : ℕ} → head (networkOf n low high weight) h ≡ i → tail (networkOf n low high weight) h ≡ j
-    → i ≢ d → d < n
+pub key-test-by-squares : (R : Rows) → WellFormed (networkOf R) → (all without : List (List Cost)) {k : ℕ}
+    → Present R k → BestSquare (networkOf R) (length (R .low)) all → BestSquare (networkOf R) k without
+    → (h : ℕ) → Present R (link h) → {i j d : ℕ} → head (networkOf R) h ≡ i → tail (networkOf R) h ≡ j → i ≢ d → d < R .nodes
     → (keyTest h (cell all i d) (cell without i d) (cell without j d)
-    (cell without (getD low k 0) d) (cell without (getD high k 0) d) ≡ true)
-    ↔ KeyLink (networkOf n low high weight) d h k
-key-test-by-squares n low high weight W all without {k} present whole less h up {i} {j} {d} enters leaves away destination =
-    let N = networkOf n low high weight in
-    let node : i < n = rw enters at (head-node N W h up) in
-    let node₂ : j < n = rw leaves at (tail-node N W h up) in
+    (cell without (getD (R .low) k 0) d) (cell without (getD (R .high) k 0) d) ≡ true)
+    ↔ KeyLink (networkOf R) d h k
+key-test-by-squares R W all without {k} present whole less h up {i} {j} {d} enters leaves away destination =
+    let N = networkOf R in
+    let node : i < R .nodes = rw enters at (head-node N W h up) in
+    let node₂ : j < R .nodes = rw leaves at (tail-node N W h up) in
     key-test N W h up present (rw enters away)
-    (rw enters (shows-all N W (length low) (omega arith) (whole i d node destination)))
+    (rw enters (shows-all N W (length (R .low)) (omega arith) (whole i d node destination)))
     (rw enters (less i d node destination)) (rw leaves (less j d node₂ destination))
-    (less (getD low k 0) d (W .low-node k present) destination) (less (getD high k 0) d (W .high-node k present) destination)
+    (less (getD (R .low) k 0) d (W .low-node k present) destination) (less (getD (R .high) k 0) d (W .high-node k present) destination)

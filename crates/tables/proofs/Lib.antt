@@ -11,6 +11,7 @@ pub mod Filling
 pub mod RowBytes
 pub mod Building
 pub mod Noting
+pub mod Lengths
 pub mod BuildVerdicts
 pub mod Determined
 pub mod Demand2

@@ -9,19 +9,21 @@ use native.Mathlib.Decide.{ℕ-discrete, decLt}
 use native.Mathlib.Omega.{arith}
 use borrow.Author.Tests.{eq-eqb, ne-eqb}
 use lib.ListN.{getD}
-use Rattle.graph.specs.Network.{WellFormed}
 use Rattle.graph.proofs.Interfaces.{head-node}
 use Rattle.graph.proofs.Chain.{first-present}
 use Rattle.net.specs.Limits.{mostNodes}
-use Rattle.net.specs.Rows.{networkOf}
-use Rattle.paths.specs.Cost.{unknown}
-use Rattle.paths.specs.Square.{cell, put, Shows}
+use Rattle.net.specs.Rows.{Rows, networkOf}
+use Rattle.net.specs.Check.{Accepted}
+use Rattle.net.proofs.Accepted.{well-formed}
+use Rattle.paths.specs.inner.Cost.{unknown}
+use Rattle.paths.specs.inner.Square.{cell, Shows}
+use Rattle.paths.specs.inner.Rounds.{put}
 use Rattle.paths.specs.declared.cost.Cost.{Cost}
 use Rattle.paths.proofs.Cells.{Shaped, put-shaped, put-here, put-elsewhere, put-other-column}
 use Rattle.paths.proofs.Shape.{read-cell}
-use Rattle.paths.proofs.Shown.{known-false, shown-onward}
-use Rattle.tables.specs.Fill.{aheadOf, noted}
-use Rattle.tables.proofs.Detours.{ahead-is}
+use Rattle.paths.proofs.SquareEntry.{known-false, shown-onward}
+use Rattle.tables.specs.inner.Detours.{aheadOf, noted}
+use Rattle.tables.proofs.Detours.{ahead-is, noting}
 
 -- what the code makes of an entry of i and d
 abbrev Change : Type 0
@@ -36,7 +38,11 @@ pub record Changed (change : Change) (n : ℕ) (old : List (List Cost)) (i d : �
 module _ {change : Change} {n : ℕ} {old : List (List Cost)} where
   pub changed-start : Shaped old → Changed change n old 0 0 old
   changed-start shaped =
-      record { shaped = shaped; passed = λ a b h p. elim p [ inl l ↦ absurd (omega arith) | inr l ↦ absurd (omega arith) ]; left = λ a b p. refl }
+      record {
+        shaped = shaped;
+        passed = λ a b h p. elim p [ inl l ↦ absurd (omega arith) | inr l ↦ absurd (omega arith) ];
+        left = λ a b p. refl;
+      }
 
   module _ {i : ℕ} {new : List (List Cost)} where
     -- one row more
@@ -75,36 +81,32 @@ module _ {change : Change} {n : ℕ} {old : List (List Cost)} where
           ];
         }
 
-module _ (n : ℕ) (low high weight : List ℕ) (W : WellFormed (networkOf n low high weight)) where
-  pub ahead-node : {X : ℕ → Type 0} {i d : ℕ} {c : Cost} → 0 < n → Shows (networkOf n low high weight) X i d c → aheadOf low high i d c < n
-  unfolding aheadOf
-  ahead-node {i = i} {d = d} {c = c} some shown =
-      elim (ℕ-discrete i d) [
-        | yes e ↦ rw (eq-eqb i d e) some
-        | no away ↦ elim (decLt (c .sum) unknown) [
-          | no lost ↦ rw (ne-eqb i d away, known-false c .1 (omega arith)) some
-          | yes known ↦
-              let N = networkOf n low high weight in
-              let (p, m) = shown-onward N W shown away known in
-              rw (ahead-is n low high weight i d c away known) (head-node N W (c .first) (first-present N (m .best .chain)))
-        ]
+-- the node ahead is a row of the squares
+pub ahead-node : (R : Rows) → Accepted R → {X : ℕ → Type 0} {i d : ℕ} {c : Cost} → Shows (networkOf R) X i d c
+    → aheadOf (R .low) (R .high) i d c < R .nodes
+unfolding aheadOf
+ahead-node R A {i = i} {d = d} {c = c} shown =
+    elim (ℕ-discrete i d) [
+      | yes e ↦ rw (eq-eqb i d e) (A .some-node)
+      | no away ↦ elim (decLt (c .sum) unknown) [
+        | no lost ↦ rw (ne-eqb i d away, known-false c .1 (omega arith)) (A .some-node)
+        | yes known ↦
+            let N = networkOf R in
+            let W = well-formed R A in
+            let (p, m) = shown-onward N W shown away known in
+            rw (ahead-is R i d c away known) (head-node N W (c .first) (first-present N (m .best .chain)))
       ]
-
--- what is kept of i and d, by the two squares, after link k was tried
-abbrev pub noting : List ℕ → List ℕ → ℕ → List (List Cost) → List (List Cost) → Change
-noting low high k all without i d kept =
-    noted i d kept (cell all i d) (cell without i d) (cell without (aheadOf low high i d (cell all i d)) d)
-    (cell without (getD low k 0) d) (cell without (getD high k 0) d)
+    ]
 
 -- The code reads the entries at i and d, at the node ahead and at the two ends of the link, all of them rows of the squares. `past` is
 -- what a read past an array's end would give.
-pub noted-read : (low high : List ℕ) (k : ℕ) (all without next : List (List Cost)) → Shaped all → Shaped without → Shaped next
+pub noted-read : (R : Rows) (k : ℕ) (all without next : List (List Cost)) → Shaped all → Shaped without → Shaped next
     → (i d : ℕ) {j x y : ℕ} → i < mostNodes → d < mostNodes → j < mostNodes → x < mostNodes → y < mostNodes → (past : Cost) {c : Cost}
-    → j ≡ aheadOf low high i d (getD (getD all i []) d past) → x ≡ getD low k 0 → y ≡ getD high k 0
+    → j ≡ aheadOf (R .low) (R .high) i d (getD (getD all i []) d past) → x ≡ getD (R .low) k 0 → y ≡ getD (R .high) k 0
     → c ≡ noted i d (getD (getD next i []) d past) (getD (getD all i []) d past) (getD (getD without i []) d past)
     (getD (getD without j []) d past) (getD (getD without x []) d past) (getD (getD without y []) d past)
-    → c ≡ noting low high k all without i d (cell next i d)
-noted-read low high k all without next sa sw sn i d {j} {x} {y} row column ahead one other past is-ahead is-one is-other is =
+    → c ≡ noting R k all without i d (cell next i d)
+noted-read R k all without next sa sw sn i d {j} {x} {y} row column ahead one other past is-ahead is-one is-other is =
     let whole = read-cell all sa i d row column past in
     let old = read-cell next sn i d row column past in
     let after = read-cell without sw i d row column past in

@@ -3,18 +3,20 @@
 -- memory; the definition asks for the row's end within the table. The two are the same for one byte a row or more.
 use Prim.Native.Nat.{ℕ, suc, _+_, _*_, _-_, _/_, _≤_, _<_}
 use mathlib.Core.Bool.{Bool, true, false}
-use mathlib.Core.Path.{_≡_, refl}
+use mathlib.Core.Path.{_≡_, refl, sym, _∙_}
 use mathlib.Core.Logic.{_≢_, _↔_}
 use mathlib.Core.List.{List, []}
 use native.Mathlib.Nat.{div-lt-iff-lt-mul, suc-mul}
-use native.Mathlib.Decide.{decLt}
+use native.Mathlib.Decide.{ℕ-discrete, decLt}
 use native.Mathlib.Omega.{arith}
 use borrow.Author.Tests.{lt-ltb, le-ltb, ltb-false, eq-eqb, ne-eqb}
 use lib.ListN.{length, take, drop}
-use Rattle.net.specs.Limits.{mostNodes}
 use Rattle.net.specs.Refusals.{accepted, nodeCount, interfaceNumber}
-use Rattle.net.specs.Check.{pick, badNodeCount}
+use Rattle.net.specs.Choice.{pick}
+use Rattle.net.specs.Check.{badNodeCount}
+use Rattle.net.proofs.Faults.{no-nodes}
 use Rattle.tables.specs.Row.{rowCheck, rowOf}
+use Rattle.tables.proofs.Tests.{false-true}
 
 -- a number not below the count of whole rows is that of a row that ends past the table's end
 past-end : (long n i : ℕ) → 0 < n → (long / n ≤ i) ↔ (long < i * n + n)
@@ -29,28 +31,29 @@ both-passed false true e = absurd (omega arith)
 both-passed false false e = refl
 
 module _ (table : List ℕ) (n i : ℕ) where
-  pub row-no-nodes : n ≡ 0 → rowCheck table n i ≡ nodeCount
-  unfolding rowCheck badNodeCount
-  row-no-nodes e = simp (eq-eqb n 0 e)
+  pub row-nodes-refused : badNodeCount n ≡ true → rowCheck table n i ≡ nodeCount
+  unfolding rowCheck
+  row-nodes-refused bad = simp bad
 
-  pub row-many-nodes : n ≢ 0 → mostNodes < n → rowCheck table n i ≡ nodeCount
-  unfolding rowCheck badNodeCount
-  row-many-nodes some many = simp (ne-eqb n 0 some, lt-ltb _ _ many)
+  module _ (good : badNodeCount n ≡ false) where
+    -- a node count that passes is not 0, so that it divides
+    pub some-node : 0 < n
+    some-node =
+        elim (ℕ-discrete n 0) [ yes e ↦ absurd (false-true (sym good ∙ no-nodes n e)) | no some ↦ omega arith ]
 
-  pub row-past : n ≢ 0 → n ≤ mostNodes → length table / n ≤ i → rowCheck table n i ≡ interfaceNumber
-  unfolding rowCheck badNodeCount
-  row-past some few past =
-      simp (ne-eqb n 0 some, le-ltb _ _ few, lt-ltb (length table) (i * n + n) (past-end _ n i (omega arith) .0 past))
+    pub row-past : length table / n ≤ i → rowCheck table n i ≡ interfaceNumber
+    unfolding rowCheck
+    row-past past = simp (good, lt-ltb (length table) (i * n + n) (past-end _ n i some-node .0 past))
 
-  pub row-inside : n ≢ 0 → n ≤ mostNodes → i < length table / n → rowCheck table n i ≡ accepted
-  unfolding rowCheck badNodeCount
-  row-inside some few inside =
-      let end : i * n + n ≤ length table =
-      elim (decLt (length table) (i * n + n)) [
-        | yes past ↦ absurd (omega (arith, past-end (length table) n i (omega arith) .1 past))
-        | no h ↦ omega arith
-      ] in
-      simp (ne-eqb n 0 some, le-ltb _ _ few, le-ltb (length table) (i * n + n) end)
+    pub row-inside : i < length table / n → rowCheck table n i ≡ accepted
+    unfolding rowCheck
+    row-inside inside =
+        let end : i * n + n ≤ length table =
+        elim (decLt (length table) (i * n + n)) [
+          | yes past ↦ absurd (omega (arith, past-end (length table) n i some-node .1 past))
+          | no h ↦ omega arith
+        ] in
+        simp (good, le-ltb (length table) (i * n + n) end)
 
   -- an accepted row ends within the table
   pub row-end : rowCheck table n i ≡ accepted → i * n + n ≤ length table

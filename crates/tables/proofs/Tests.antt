@@ -6,12 +6,12 @@ use mathlib.Core.Logic.{_⊎_, inl, inr, _↔_}
 use native.Mathlib.Omega.{arith}
 use borrow.Author.Tests.{eqb-true, eq-eqb}
 use Rattle.graph.specs.Set.{bit}
-use Rattle.net.specs.Check.{either, both}
-use Rattle.paths.specs.Cost.{unknown, isKnown, before}
+use Rattle.net.specs.Choice.{either, both}
+use Rattle.paths.specs.inner.Cost.{unknown, isKnown, before}
 use Rattle.paths.specs.declared.cost.Cost.{Cost}
-use Rattle.paths.proofs.Pair.{Lower, before?}
-use Rattle.paths.proofs.Shown.{known-true}
-use Rattle.tables.specs.Key.{hasLink}
+use Rattle.paths.proofs.CostNumber.{Lower, before?}
+use Rattle.paths.proofs.SquareEntry.{known-true}
+use Rattle.tables.specs.inner.KeyTest.{hasLink}
 
 pub false-true : false ≡ true → ⊥
 false-true e = let z : _≡_ {A = ℕ} 0 1 = cc in omega arith

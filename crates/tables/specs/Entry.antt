@@ -8,13 +8,16 @@ use Rattle.graph.specs.Path.{All, But}
 use Rattle.graph.specs.Entries.{Free}
 use Rattle.net.specs.Entry.{EntryByte}
 
--- the three kinds, by row and destination: a routing row is a node's, a forwarding or backwarding row an interface's
+-- The three kinds, by row and destination: a routing row is a node's, a forwarding or backwarding row an interface's.
+-- "Routing entry of i for d: the first node after i on the best path."
 abbrev pub RoutingByte : Network → ℕ → ℕ → ℕ → Type 0
 RoutingByte N i d = EntryByte N All i d
 
+-- "Forwarding entry of interface j to i for d: the first node on the best path from i to d when all those key links are taken out."
 abbrev pub ForwardingByte : Network → ℕ → ℕ → ℕ → Type 0
 ForwardingByte N h d = EntryByte N (Free N d h) (head N h) d
 
+-- "Backwarding entry of interface i to j for d: the first node on the best path from i to d when link i-j is taken out."
 abbrev pub BackwardingByte : Network → ℕ → ℕ → ℕ → Type 0
 BackwardingByte N h d = EntryByte N (But (link h)) (tail N h) d
 

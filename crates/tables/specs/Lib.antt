@@ -1,6 +1,7 @@
+pub mod Lent
 pub mod Key
 pub mod Entry
-pub mod Fill
 pub mod Build
 pub mod Row
 pub mod Demand2
+pub mod inner

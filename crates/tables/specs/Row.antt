@@ -5,7 +5,8 @@ use mathlib.Core.List.{List, []}
 use lib.ListN.{length, take, drop}
 use lib.Dec.{ltb, eqb}
 use Rattle.net.specs.Refusals.{accepted, nodeCount, interfaceNumber}
-use Rattle.net.specs.Check.{pick, badNodeCount}
+use Rattle.net.specs.Choice.{pick}
+use Rattle.net.specs.Check.{badNodeCount}
 
 -- "in the row look-up instead, a row not wholly in the lent table"
 unfoldable pub rowCheck : List ℕ → ℕ → ℕ → ℕ

@@ -5,16 +5,15 @@ ghost use mathlib.Core.Path.{_≡_};
 ghost use Prim.Native.Nat.{ℕ, suc, _*_, _≤_, _<_};
 ghost use lib.ListN.{length, getD};
 ghost use Rattle.net.specs.Limits.{mostNodes};
-ghost use Rattle.net.specs.Check.{Accepted};
 ghost use Rattle.net.specs.Rows.{networkOf};
-ghost use Rattle.paths.specs.Cost.{noCost};
-ghost use Rattle.paths.specs.Square.{BestSquare};
+ghost use Rattle.paths.specs.inner.Cost.{noCost};
 ghost use Rattle.tables.specs.Entry.{Filled, RoutingByte, ForwardingByte, BackwardingByte};
-ghost use Rattle.tables.specs.Fill.{aheadOf, dearerOf, noted, forwardCost, noDetours, Detours};
 ghost use Rattle.tables.specs.Build.{buildVerdict, BuildAnswer};
+ghost use Rattle.tables.specs.inner.Detours.{aheadOf, dearerOf, noted, forwardCost, noDetours, Detours};
+ghost use Rattle.tables.specs.inner.Given.{Filling, FillingForwarding, Trying};
 use crate::entry::fill_row;
 use crate::key::is_key;
-use crate::key::reverse_of;
+use crate::lent::tables_short;
 use net::Interface;
 use net::Verdict;
 use net::check_network;
@@ -22,10 +21,12 @@ use net::end_at;
 use net::head_of;
 use net::limit;
 use net::refusal;
-use paths::Cost;
-use paths::comes_before;
-use paths::known;
-use paths::square_of;
+use net::reverse_of;
+use net::unplaced;
+use paths::inner::Cost;
+use paths::inner::comes_before;
+use paths::inner::known;
+use paths::inner::square_of;
 
 // The node after i on its way to d; 0 where there is none.
 fn ahead_of(i: usize, d: usize, low: &[u8], high: &[u8], c: Cost) -> usize
@@ -66,7 +67,7 @@ fn noted_cost(
         return kept;
     }
     if is_key(
-        reverse_of(whole.first as usize),
+        reverse_of(Interface(whole.first as usize)),
         whole,
         after,
         ahead,
@@ -89,12 +90,9 @@ fn note_link(
     weight: &[u32],
     k: usize,
 ) -> [[Cost; limit::NODES]; limit::NODES]
-    requires { ⌜ Accepted n (now low) (now high) (now weight) ⌝ }
-    requires { ⌜ k < length (now low) ⌝ }
-    requires { ⌜ BestSquare (networkOf n (now low) (now high) (now weight)) (length (now low)) all ⌝ }
-    requires { ⌜ BestSquare (networkOf n (now low) (now high) (now weight)) k without ⌝ }
-    requires { ⌜ Detours (networkOf n (now low) (now high) (now weight)) k all kept ⌝ }
-    ensures { λ r. ⌜ Detours (networkOf n (now (low .entry)) (now (high .entry)) (now (weight .entry))) (suc k) all r ⌝ }
+    requires { ⌜ Trying (record { nodes = n; low = now low; high = now high; weight = now weight }) k all without kept ⌝ }
+    ensures { λ r. ⌜ Detours (networkOf
+        (record { nodes = n; low = now (low .entry); high = now (high .entry); weight = now (weight .entry) })) (suc k) all r ⌝ }
 {
     let x = end_at(low, k);
     let y = end_at(high, k);
@@ -138,10 +136,9 @@ fn fill_routing(
     weight: &[u32],
     all: [[Cost; limit::NODES]; limit::NODES],
 )
-    requires { ⌜ Accepted n (now low) (now high) (now weight) ⌝ }
-    requires { ⌜ n * n ≤ length (now table) ⌝ }
-    requires { ⌜ BestSquare (networkOf n (now low) (now high) (now weight)) (length (now low)) all ⌝ }
-    ensures { λ r. ⌜ Filled n n (RoutingByte (networkOf n (now (low .entry)) (now (high .entry)) (now (weight .entry))))
+    requires { ⌜ Filling (record { nodes = n; low = now low; high = now high; weight = now weight }) n (now table) all ⌝ }
+    ensures { λ r. ⌜ Filled n n
+        (RoutingByte (networkOf (record { nodes = n; low = now (low .entry); high = now (high .entry); weight = now (weight .entry) })))
         (now (table .entry)) (now (table .exit)) ⌝ }
 {
     let mut i: usize = 0;
@@ -163,13 +160,14 @@ fn fill_backwarding(
     weight: &[u32],
     all: [[Cost; limit::NODES]; limit::NODES],
 ) -> [[Cost; limit::NODES]; limit::NODES]
-    requires { ⌜ Accepted n (now low) (now high) (now weight) ⌝ }
-    requires { ⌜ 2 * length (now low) * n ≤ length (now table) ⌝ }
-    requires { ⌜ BestSquare (networkOf n (now low) (now high) (now weight)) (length (now low)) all ⌝ }
+    requires { ⌜ Filling (record { nodes = n; low = now low; high = now high; weight = now weight })
+        (2 * length (now low)) (now table) all ⌝ }
     ensures { λ r. ⌜ Filled n (2 * length (now (low .entry)))
-        (BackwardingByte (networkOf n (now (low .entry)) (now (high .entry)) (now (weight .entry))))
+        (BackwardingByte (networkOf (record { nodes = n; low = now (low .entry); high = now (high .entry); weight = now (weight .entry) })))
         (now (table .entry)) (now (table .exit)) ⌝ }
-    ensures { λ r. ⌜ Detours (networkOf n (now (low .entry)) (now (high .entry)) (now (weight .entry))) (length (now (low .entry))) all r ⌝ }
+    ensures { λ r. ⌜ Detours
+        (networkOf (record { nodes = n; low = now (low .entry); high = now (high .entry); weight = now (weight .entry) }))
+        (length (now (low .entry))) all r ⌝ }
 {
     let links = low.len();
     let mut kept = no_detours();
@@ -192,13 +190,14 @@ fn fill_backwarding(
     kept
 }
 
-fn forward_cost(h: usize, whole: Cost, kept: Cost) -> Cost
-    ensures { λ r. ⌜ r ≡ forwardCost h whole kept ⌝ }
+// The cost by which the head of interface h forwards, by its own best cost and the detour kept.
+fn forward_cost(h: Interface, whole: Cost, kept: Cost) -> Cost
+    ensures { λ r. ⌜ r ≡ forwardCost (h .0) whole kept ⌝ }
 {
     if !known(whole) {
         return whole;
     }
-    if whole.first as usize != reverse_of(h) {
+    if whole.first as usize != reverse_of(h).0 {
         return whole;
     }
     if kept.sum == 0 {
@@ -209,13 +208,13 @@ fn forward_cost(h: usize, whole: Cost, kept: Cost) -> Cost
 
 // The costs by which the head of interface h forwards to each destination.
 fn forward_costs(
-    h: usize,
+    h: Interface,
     n: usize,
     all: [Cost; limit::NODES],
     kept: [Cost; limit::NODES],
 ) -> [Cost; limit::NODES]
     requires { ⌜ n ≤ mostNodes ⌝ }
-    ensures { λ r. ⌜ ((d : ℕ) → d < n → getD r d noCost ≡ forwardCost h (getD all d noCost) (getD kept d noCost)) ⌝ }
+    ensures { λ r. ⌜ ((d : ℕ) → d < n → getD r d noCost ≡ forwardCost (h .0) (getD all d noCost) (getD kept d noCost)) ⌝ }
 {
     let mut costs = all;
     let mut d: usize = 0;
@@ -235,12 +234,9 @@ fn fill_forwarding(
     all: [[Cost; limit::NODES]; limit::NODES],
     kept: [[Cost; limit::NODES]; limit::NODES],
 )
-    requires { ⌜ Accepted n (now low) (now high) (now weight) ⌝ }
-    requires { ⌜ 2 * length (now low) * n ≤ length (now table) ⌝ }
-    requires { ⌜ BestSquare (networkOf n (now low) (now high) (now weight)) (length (now low)) all ⌝ }
-    requires { ⌜ Detours (networkOf n (now low) (now high) (now weight)) (length (now low)) all kept ⌝ }
+    requires { ⌜ FillingForwarding (record { nodes = n; low = now low; high = now high; weight = now weight }) (now table) all kept ⌝ }
     ensures { λ r. ⌜ Filled n (2 * length (now (low .entry)))
-        (ForwardingByte (networkOf n (now (low .entry)) (now (high .entry)) (now (weight .entry))))
+        (ForwardingByte (networkOf (record { nodes = n; low = now (low .entry); high = now (high .entry); weight = now (weight .entry) })))
         (now (table .entry)) (now (table .exit)) ⌝ }
 {
     let interfaces = 2 * low.len();
@@ -251,7 +247,7 @@ fn fill_forwarding(
         let to = from + n;
         let own = all[i];
         let detours = kept[i];
-        let costs = forward_costs(h, n, own, detours);
+        let costs = forward_costs(Interface(h), n, own, detours);
         fill_row(&mut table[from..to], n, i, low, high, costs);
         h += 1;
     }
@@ -266,31 +262,16 @@ fn build_verdict(
     forwarding: &[u8],
     backwarding: &[u8],
 ) -> Verdict
-    ensures { λ r. ⌜ r ≡ buildVerdict n (now (low .entry)) (now (high .entry)) (now (weight .entry))
-        (now (routing .entry)) (now (forwarding .entry)) (now (backwarding .entry)) ⌝ }
+    ensures { λ r. ⌜ r ≡ buildVerdict
+        (record { nodes = n; low = now (low .entry); high = now (high .entry); weight = now (weight .entry) })
+        (record { routing = now (routing .entry); forwarding = now (forwarding .entry); backwarding = now (backwarding .entry) }) ⌝ }
 {
     let verdict = check_network(n, low, high, weight);
     if verdict.number != refusal::NONE {
         return verdict;
     }
-    let rows = 2 * low.len() * n;
-    if routing.len() < n * n {
-        return Verdict {
-            number: refusal::TABLE_LENGTH,
-            place: 0,
-        };
-    }
-    if forwarding.len() < rows {
-        return Verdict {
-            number: refusal::TABLE_LENGTH,
-            place: 0,
-        };
-    }
-    if backwarding.len() < rows {
-        return Verdict {
-            number: refusal::TABLE_LENGTH,
-            place: 0,
-        };
+    if tables_short(n, low.len(), routing, forwarding, backwarding) {
+        return unplaced(refusal::TABLE_LENGTH);
     }
     verdict
 }
@@ -304,9 +285,11 @@ pub fn build_tables(
     forwarding: &mut [u8],
     backwarding: &mut [u8],
 ) -> Verdict
-    ensures { λ r. ⌜ BuildAnswer n (now (low .entry)) (now (high .entry)) (now (weight .entry))
-        (now (routing .entry)) (now (forwarding .entry)) (now (backwarding .entry)) r
-        (now (routing .exit)) (now (forwarding .exit)) (now (backwarding .exit)) ⌝ }
+    ensures { λ r. ⌜ BuildAnswer
+        (record { nodes = n; low = now (low .entry); high = now (high .entry); weight = now (weight .entry) })
+        (record { routing = now (routing .entry); forwarding = now (forwarding .entry); backwarding = now (backwarding .entry) })
+        r
+        (record { routing = now (routing .exit); forwarding = now (forwarding .exit); backwarding = now (backwarding .exit) }) ⌝ }
 {
     let verdict = build_verdict(n, low, high, weight, routing, forwarding, backwarding);
     if verdict.number != refusal::NONE {

@@ -1,16 +1,14 @@
 // One entry as a byte: a node; 254 where the destination is the deciding node itself (checked first); 255 where no path exists.
 // A row of n entries is filled as that part of the lent table.
 ghost use mathlib.Core.Path.{_≡_};
-ghost use Prim.Native.Nat.{_≤_};
-ghost use lib.ListN.{length};
-ghost use Rattle.net.specs.Limits.{mostNodes};
-ghost use Rattle.tables.specs.Fill.{entryByte, entryRow};
+ghost use Rattle.tables.specs.inner.EntryRow.{entryByte, entryRow};
+ghost use Rattle.tables.specs.inner.Given.{OneRow};
 use net::Interface;
 use net::entry;
 use net::head_of;
 use net::limit;
-use paths::Cost;
-use paths::known;
+use paths::inner::Cost;
+use paths::inner::known;
 
 // The entry of node i for d that a cost gives.
 pub fn entry_byte(i: usize, d: usize, low: &[u8], high: &[u8], c: Cost) -> u8
@@ -34,7 +32,7 @@ pub fn fill_row(
     high: &[u8],
     costs: [Cost; limit::NODES],
 )
-    requires { ⌜ (n ≤ mostNodes) × (length (now row) ≡ n) ⌝ }
+    requires { ⌜ OneRow n (now row) ⌝ }
     ensures { λ r. ⌜ now (row .exit) ≡ entryRow n (now (low .entry)) (now (high .entry)) i 0 costs ⌝ }
 {
     let mut d: usize = 0;

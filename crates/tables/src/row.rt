@@ -2,17 +2,14 @@
 ghost use mathlib.Core.Path.{_≡_};
 ghost use Rattle.tables.specs.Row.{rowCheck, rowOf};
 use net::Interface;
-use net::limit;
+use net::bad_node_count;
 use net::refusal;
 
 // The refusal number of the look-up, or 0.
 pub fn row_check(table: &[u8], n: usize, interface: Interface) -> u8
     ensures { λ r. ⌜ r ≡ rowCheck (now (table .entry)) n (interface .0) ⌝ }
 {
-    if n == 0 {
-        return refusal::NODE_COUNT;
-    }
-    if limit::NODES < n {
+    if bad_node_count(n) {
         return refusal::NODE_COUNT;
     }
     if table.len() / n <= interface.0 {

@@ -2,7 +2,7 @@
 use mathlib.Core.Path.{sym, _∙_}
 use borrow.Author.Needs.{needs}
 use borrow.Author.Tests.{eq-eqb, ne-eqb}
-use Rattle.tables.specs.Fill.{aheadOf}
+use Rattle.tables.specs.inner.Detours.{aheadOf}
 use Rattle.tables.proofs.build.ahead_of.Statement.{statement}
 use Rattle.tables.proofs.build.ahead_of.Tie as tie
 
@@ -22,8 +22,8 @@ head-of-requires c κs = search needs
 returns-2 : tie.Need-returns-2
 unfolding aheadOf
 returns-2 c =
-    simp (ne-eqb _ _ (c .before .before .before .before .if1 .left), sym (c .before .before .before .known .ensures) ∙ c .before .before .if2 .taken)
-    (c .head-of .ensures)
+    let tested = c .before .before in
+    simp (ne-eqb _ _ (tested .before .before .if1 .left), sym (tested .before .known .ensures) ∙ tested .if2 .taken) (c .head-of .ensures)
 
 returns-3 : tie.Need-returns-3
 unfolding aheadOf

@@ -1,28 +1,32 @@
 -- `build_tables` refuses as `build_verdict` does, and then changes nothing. Else the network is accepted and the tables are long enough,
 -- so that each table is filled as its own function promises.
-use Prim.Native.Nat.{_*_, _≤_}
 use mathlib.Core.Path.{refl}
-use lib.ListN.{length}
-use Rattle.net.specs.Check.{Accepted}
-use Rattle.tables.proofs.BuildVerdicts.{build-accepted, build-room}
 use borrow.Author.Needs.{needs}
+use lib.ListN.{length}
+use Rattle.net.specs.Rows.{Rows}
+use Rattle.net.specs.Check.{Accepted}
+use Rattle.tables.specs.Lent.{LentTables, LongEnough}
+use Rattle.tables.proofs.BuildVerdicts.{build-accepted, build-room}
 use Rattle.tables.proofs.build.build_tables.Statement.{statement}
 use Rattle.tables.proofs.build.build_tables.Tie as tie
 
--- nothing is refused: the network is accepted, and the tables have room for their rows
-network : (c : tie.Else1)
-    → let args = c .before .before .before .before .before .before .before .before .before .before .before .before .args in
-    Accepted (args .n) (args .low .now) (args .high .now) (args .weight .now)
-network c = build-accepted _ _ _ _ _ _ _ (c .before .before .build-verdict .ensures) (c .if1 .left)
+-- the network and the tables that were given
+abbrev rows : tie.Start → Rows
+rows c = record { nodes = c .args .n; low = c .args .low .now; high = c .args .high .now; weight = c .args .weight .now }
 
-room : (c : tie.Else1)
-    → let args = c .before .before .before .before .before .before .before .before .before .before .before .before .args in
-    (args .n * args .n ≤ length (args .routing .now)) × (2 * length (args .low .now) * args .n ≤ length (args .forwarding .now))
-    × (2 * length (args .low .now) * args .n ≤ length (args .backwarding .now))
-room c =
-    let args = c .before .before .before .before .before .before .before .before .before .before .before .before .args in
-    build-room (args .n) (args .low .now) (args .high .now) (args .weight .now) (args .routing .now) (args .forwarding .now)
-    (args .backwarding .now) (c .before .before .build-verdict .ensures) (c .if1 .left)
+abbrev tables : tie.Start → LentTables
+tables c =
+    record { routing = c .args .routing .now; forwarding = c .args .forwarding .now; backwarding = c .args .backwarding .now }
+
+abbrev start : tie.Else1 → tie.Start
+start c = c .before .before .before .before .before .before .before .before .before .before .before .before
+
+-- nothing is refused: the network is accepted, and the tables have room for their rows
+network : (c : tie.Else1) → Accepted (rows (start c))
+network c = build-accepted _ _ (c .before .before .build-verdict .ensures) (c .if1 .left)
+
+room : (c : tie.Else1) → LongEnough (rows (start c) .nodes) (length (rows (start c) .low)) (tables (start c))
+room c = build-room (rows (start c)) (tables (start c)) (c .before .before .build-verdict .ensures) (c .if1 .left)
 
 build-verdict-requires : tie.Need-build-verdict-requires
 build-verdict-requires c κs = search needs
@@ -40,7 +44,7 @@ returns : tie.Need-returns
 returns c =
     record {
       verdict = c .before .before .build-verdict .ensures;
-      refused = λ refusal. (refl, refl, refl);
+      refused = λ refusal. refl;
       built = λ free. absurd (c .if1 .taken free);
     }
 
@@ -49,18 +53,25 @@ square-of-requires c κs = network c
 
 fill-routing-requires : tie.Need-fill-routing-requires
 fill-routing-requires c κs =
-    let passed = c .before .before in
-    (network passed, (room passed .0, c .before .square-of .ensures))
+    let squared = c .before in
+    let passed = squared .before in
+    record { network = network passed; room = room passed .for-routing; square = squared .square-of .ensures }
 
 fill-backwarding-requires : tie.Need-fill-backwarding-requires
 fill-backwarding-requires c κs =
-    let passed = c .before .before .before .before .before .before in
-    (network passed, (room passed .2, c .before .before .before .before .before .square-of .ensures))
+    let squared = c .before .before .before .before .before in
+    let passed = squared .before in
+    record { network = network passed; room = room passed .for-backwarding; square = squared .square-of .ensures }
 
 fill-forwarding-requires : tie.Need-fill-forwarding-requires
 fill-forwarding-requires c κs =
-    let passed = c .before .before .before .before .before .before .before .before .before .before in
-    (network passed, (room passed .1, (c .before .before .before .before .before .before .before .before .before .square-of .ensures, c .before .before .before .fill-backwarding .ensures .1)))
+    let backwarded = c .before .before .before in
+    let squared = backwarded .before .before .before .before .before .before in
+    let passed = squared .before in
+    record {
+      filling = record { network = network passed; room = room passed .for-forwarding; square = squared .square-of .ensures };
+      detours = backwarded .fill-backwarding .ensures .1;
+    }
 
 same-length-4 : tie.Need-same-length-4
 same-length-4 c = search needs
@@ -73,13 +84,17 @@ same-length-6 c = search needs
 
 returns-2 : tie.Need-returns-2
 returns-2 c =
+    let forwarded = c .before .before in
+    let backwarded = forwarded .before .before .before .before in
+    let routed = backwarded .before .before .before .before in
+    let passed = routed .before .before .before in
     record {
-      verdict = c .before .before .before .before .before .before .before .before .before .before .before .before .before .before .before .build-verdict .ensures;
-      refused = λ refusal. absurd (refusal (c .before .before .before .before .before .before .before .before .before .before .before .before .before .if1 .left));
+      verdict = passed .before .before .build-verdict .ensures;
+      refused = λ refusal. absurd (refusal (passed .if1 .left));
       built = λ free. record {
-        routes = c .before .before .before .before .before .before .before .before .before .before .fill-routing .ensures;
-        forwards = c .before .before .fill-forwarding .ensures;
-        backwards = c .before .before .before .before .before .before .fill-backwarding .ensures .0;
+        routes = routed .fill-routing .ensures;
+        forwards = forwarded .fill-forwarding .ensures;
+        backwards = backwarded .fill-backwarding .ensures .0;
       };
     }
 

@@ -1,7 +1,7 @@
 -- `dearer` picks by the test of `dearerOf`.
 use mathlib.Core.Path.{sym, _∙_}
 use borrow.Author.Needs.{needs}
-use Rattle.tables.specs.Fill.{dearerOf}
+use Rattle.tables.specs.inner.Detours.{dearerOf}
 use Rattle.tables.proofs.build.dearer.Statement.{statement}
 use Rattle.tables.proofs.build.dearer.Tie as tie
 

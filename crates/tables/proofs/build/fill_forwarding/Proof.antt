@@ -6,9 +6,9 @@ use native.Mathlib.Omega.{arith}
 use lib.ListN.{length, length-take, length-drop}
 use Rattle.graph.specs.Network.{link, head}
 use Rattle.graph.proofs.Interfaces.{head-node}
-use Rattle.net.specs.Rows.{networkOf}
+use Rattle.net.specs.Rows.{Rows, Present, networkOf}
 use Rattle.net.proofs.Accepted.{well-formed}
-use Rattle.net.proofs.Rows.{head-of}
+use Rattle.net.proofs.Rows.{interface-present, head-of}
 use Rattle.tables.specs.Entry.{Filled, ForwardingByte}
 use Rattle.tables.proofs.Filling.{filled-start}
 use Rattle.tables.proofs.RowBytes.{forwarding-row}
@@ -18,38 +18,40 @@ use Rattle.tables.proofs.build.fill_forwarding.Tie as tie
 
 abbrev Inv-loop : tie.InvT-loop
 Inv-loop table₀ n low high weight all kept interfaces h₀ table h =
-    (interfaces ≡ 2 * length low) × (h ≤ interfaces) × Filled n h (ForwardingByte (networkOf n low high weight)) table₀ table
+    (interfaces ≡ 2 * length low) × (h ≤ interfaces)
+    × Filled n h (ForwardingByte (networkOf (record { nodes = n; low = low; high = high; weight = weight }))) table₀ table
 
 abbrev μ-loop : tie.MeasureT-loop
 μ-loop table₀ n low high weight all kept interfaces h₀ table h = interfaces - h
 
+-- the network that was given
+abbrev rows : tie.Start Inv-loop μ-loop → Rows
+rows c = record { nodes = c .args .n; low = c .args .low .now; high = c .args .high .now; weight = c .args .weight .now }
+
+abbrev start : tie.In-loop Inv-loop μ-loop → tie.Start Inv-loop μ-loop
+start c = c .before .before .before .before .before .before
+
 -- row h ends within the table
 room : (c : tie.In-loop Inv-loop μ-loop)
-    → let args = c .before .before .before .before .before .before .args in
+    → let args = start c .args in
     c .before .loop .h * args .n + args .n ≤ length (args .table .now)
 room c =
-    let start = c .before .before .before .before .before .before in
-    row-room {rows = 2 * length (start .args .low .now)} (start .args .n) (c .before .loop .h) (omega arith) (start .pre .1 .0)
+    let args = start c .args in
+    row-room {rows = 2 * length (args .low .now)} (args .n) (c .before .loop .h) (omega arith) (start c .pre .filling .room)
 
 -- it is the row of a node
 enters : (c : tie.After-head-of Inv-loop μ-loop)
-    → let args = c .before .before .before .before .before .before .before .args in
-    head (networkOf (args .n) (args .low .now) (args .high .now) (args .weight .now)) (c .before .before .loop .h) ≡ c .head-of .result .0
-enters c =
-    let args = c .before .before .before .before .before .before .before .args in
-    head-of (args .n) (args .low .now) (args .high .now) (args .weight .now) (c .before .before .loop .h) ∙ sym (c .head-of .ensures)
+    → head (networkOf (rows (start (c .before)))) (c .before .before .loop .h) ≡ c .head-of .result .0
+enters c = head-of (rows (start (c .before))) (c .before .before .loop .h) ∙ sym (c .head-of .ensures)
 
-present : (c : tie.In-loop Inv-loop μ-loop) → link (c .before .loop .h) < length (c .before .before .before .before .before .before .args .low .now)
-unfolding link
-present c = omega arith
+present : (c : tie.In-loop Inv-loop μ-loop) → Present (rows (start c)) (link (c .before .loop .h))
+present c = interface-present (rows (start c)) (c .before .loop .h) (omega arith)
 
-node : (c : tie.After-head-of Inv-loop μ-loop) → c .head-of .result .0 < c .before .before .before .before .before .before .before .args .n
+node : (c : tie.After-head-of Inv-loop μ-loop) → c .head-of .result .0 < start (c .before) .args .n
 node c =
-    let start = c .before .before .before .before .before .before .before in
-    let args = start .args in
+    let given = start (c .before) in
     rw (enters c) at
-    (head-node (networkOf (args .n) (args .low .now) (args .high .now) (args .weight .now)) (well-formed _ _ _ _ (start .pre .0))
-    (c .before .before .loop .h) (present (c .before)))
+    (head-node (networkOf (rows given)) (well-formed _ (given .pre .filling .network)) (c .before .before .loop .h) (present (c .before)))
 
 mul-interfaces : tie.Need-mul-interfaces Inv-loop μ-loop
 mul-interfaces c = omega arith
@@ -91,7 +93,9 @@ part-fill-row-end : tie.Need-part-fill-row-end Inv-loop μ-loop
 part-fill-row-end c = let end = room (c .before .before .before .before) in omega arith
 
 fill-row-requires : tie.Need-fill-row-requires Inv-loop μ-loop
-fill-row-requires c κs = let end = room (c .before .before .before .before .before) in (omega arith, simp (length-take, length-drop) (omega arith))
+fill-row-requires c κs =
+    let end = room (c .before .before .before .before .before) in
+    record { few-nodes = omega arith; width = simp (length-take, length-drop) (omega arith) }
 
 add-h : tie.Need-add-h Inv-loop μ-loop
 add-h c = omega arith
@@ -101,17 +105,17 @@ loop-less c = omega arith
 
 loop-again : tie.Need-loop-again Inv-loop μ-loop
 loop-again c =
-    let start = c .before .before .before .before .before .before .before .before .before .before .before .before .before .before in
-    let args = start .args in
-    let at = c .before .before .before .before .before .before .before .before .before .loop in
-    let in-loop = c .before .before .before .before .before .before .before .before in
-    let W = well-formed _ _ _ _ (start .pre .0) in (
+    let costs = c .before .before .before .before in
+    let entered = costs .before .before .before in
+    let in-loop = entered .before in
+    let at = in-loop .before .loop in
+    let given = start in-loop in
+    let filling = given .pre .filling in (
       at .inv .0,
       omega arith,
-      filled-row (at .inv .2) refl (room in-loop) (args .low .now) (args .high .now) _ (c .before .before .before .before .forward-costs .result)
-          (forwarding-row (args .n) (args .low .now) (args .high .now) (args .weight .now) W (start .pre .0 .few-nodes) (args .t6) (args .t7)
-          (start .pre .1 .1 .0) (start .pre .1 .1 .1) (at .h) (present in-loop) (enters (c .before .before .before .before .before .before .before)) _
-          (c .before .before .before .before .forward-costs .ensures))
+      filled-row (at .inv .2) refl (room in-loop) (given .args .low .now) (given .args .high .now) _ (costs .forward-costs .result)
+          (forwarding-row (rows given) (filling .network) (given .args .t6) (given .args .t7) (filling .square) (given .pre .detours)
+          (at .h) (present in-loop) (enters entered) _ (costs .forward-costs .ensures))
           (c .before .before .fill-row .ensures),
     )
 

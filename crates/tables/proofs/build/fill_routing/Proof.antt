@@ -5,7 +5,6 @@ use mathlib.Core.List.{[]}
 use native.Mathlib.Omega.{arith}
 use lib.ListN.{length, getD, length-take, length-drop}
 use Rattle.net.specs.Rows.{networkOf}
-use Rattle.net.proofs.Accepted.{well-formed}
 use Rattle.tables.specs.Entry.{Filled, RoutingByte}
 use Rattle.tables.proofs.RowBytes.{routing-row}
 use Rattle.tables.proofs.Filling.{filled-start}
@@ -14,7 +13,8 @@ use Rattle.tables.proofs.build.fill_routing.Statement.{statement}
 use Rattle.tables.proofs.build.fill_routing.Tie as tie
 
 abbrev Inv-loop : tie.InvT-loop
-Inv-loop table₀ n low high weight all i₀ table i = (i ≤ n) × Filled n i (RoutingByte (networkOf n low high weight)) table₀ table
+Inv-loop table₀ n low high weight all i₀ table i =
+    (i ≤ n) × Filled n i (RoutingByte (networkOf (record { nodes = n; low = low; high = high; weight = weight }))) table₀ table
 
 abbrev μ-loop : tie.MeasureT-loop
 μ-loop table₀ n low high weight all i₀ table i = n - i
@@ -28,7 +28,8 @@ room : (c : tie.In-loop Inv-loop μ-loop)
     c .before .loop .i * args .n + args .n ≤ length (args .table .now)
 room c =
     let start = c .before .before .before .before .before .before in
-    row-room {rows = start .args .n} {room = length (start .args .table .now)} (start .args .n) (c .before .loop .i) (c .loop-test .taken) (start .pre .1 .0)
+    row-room {rows = start .args .n} {room = length (start .args .table .now)} (start .args .n) (c .before .loop .i) (c .loop-test .taken)
+    (start .pre .room)
 
 mul-from : tie.Need-mul-from Inv-loop μ-loop
 mul-from c = let end = room c in omega arith
@@ -52,7 +53,9 @@ part-fill-row-end : tie.Need-part-fill-row-end Inv-loop μ-loop
 part-fill-row-end c = let end = room (c .before) in omega arith
 
 fill-row-requires : tie.Need-fill-row-requires Inv-loop μ-loop
-fill-row-requires c κs = let end = room (c .before .before) in (omega arith, simp (length-take, length-drop) (omega arith))
+fill-row-requires c κs =
+    let end = room (c .before .before) in
+    record { few-nodes = omega arith; width = simp (length-take, length-drop) (omega arith) }
 
 add-i : tie.Need-add-i Inv-loop μ-loop
 add-i c = omega arith
@@ -63,12 +66,11 @@ loop-less c = omega arith
 loop-again : tie.Need-loop-again Inv-loop μ-loop
 loop-again c =
     let start = c .before .before .before .before .before .before .before .before .before .before .before in
-    let at = c .before .before .before .before .before .before .loop in
-    let W = well-formed _ _ _ _ (start .pre .0) in (
+    let at = c .before .before .before .before .before .before .loop in (
       omega arith,
-      filled-row (at .inv .1) refl (room (c .before .before .before .before .before)) (start .args .low .now) (start .args .high .now) (at .i) (getD (start .args .t6) (at .i) [])
-          (routing-row (start .args .n) (start .args .low .now) (start .args .high .now) (start .args .weight .now) W (start .pre .0 .few-nodes)
-          (start .args .t6) (start .pre .1 .1) (omega arith))
+      filled-row (at .inv .1) refl (room (c .before .before .before .before .before)) (start .args .low .now) (start .args .high .now)
+          (at .i) (getD (start .args .t6) (at .i) [])
+          (routing-row _ (start .pre .network) (start .args .t6) (start .pre .square) (omega arith))
           (c .before .before .fill-row .ensures),
     )
 

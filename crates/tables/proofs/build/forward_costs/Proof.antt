@@ -6,15 +6,16 @@ use borrow.Author.Count.{below-more}
 use lib.ListN.{length, getD, length-set}
 use lib.Seq.{getD-set-same, getD-set-other}
 use Rattle.net.specs.Limits.{mostNodes}
-use Rattle.paths.specs.Cost.{noCost}
-use Rattle.tables.specs.Fill.{forwardCost}
+use Rattle.paths.specs.inner.Cost.{noCost}
+use Rattle.tables.specs.inner.Detours.{forwardCost}
 use Rattle.tables.proofs.Building.{forward-read}
 use Rattle.tables.proofs.build.forward_costs.Statement.{statement}
 use Rattle.tables.proofs.build.forward_costs.Tie as tie
 
 abbrev Inv-loop : tie.InvT-loop
 Inv-loop h n all kept costs₀ d₀ costs d =
-    (d ≤ n) × (length costs ≡ mostNodes) × ((e : ℕ) → e < d → getD costs e noCost ≡ forwardCost h (getD all e noCost) (getD kept e noCost))
+    (d ≤ n) × (length costs ≡ mostNodes)
+    × ((e : ℕ) → e < d → getD costs e noCost ≡ forwardCost (h .0) (getD all e noCost) (getD kept e noCost))
 
 abbrev μ-loop : tie.MeasureT-loop
 μ-loop h n all kept costs₀ d₀ costs d = n - d

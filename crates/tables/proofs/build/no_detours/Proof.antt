@@ -1,6 +1,6 @@
 -- `no_detours` is `noDetours` as written.
 use mathlib.Core.Path.{refl}
-use Rattle.tables.specs.Fill.{noDetours}
+use Rattle.tables.specs.inner.Detours.{noDetours}
 use Rattle.tables.proofs.build.no_detours.Statement.{statement}
 use Rattle.tables.proofs.build.no_detours.Tie as tie
 

@@ -1,37 +1,46 @@
 -- `note_link` changes the entries of what is kept in order, one a turn of the inner loop, by `noting`: each entry passed is changed, and
 -- the others are as they were. The inner loop's invariant says so of whatever square the rows before are changed from. The ends of the
 -- link and the node ahead are nodes, so they are rows of the squares.
-use Prim.Native.Nat.{_≤_, _<_, _-_}
+use Prim.Native.Nat.{ℕ, _≤_, _<_, _-_}
 use mathlib.Core.Path.{_≡_}
 use mathlib.Core.Logic.{inl}
 use mathlib.Core.List.{List}
 use native.Mathlib.Omega.{arith}
 use lib.ListN.{getD}
 use Rattle.net.specs.Limits.{mostNodes}
+use Rattle.net.specs.Rows.{Rows}
 use Rattle.net.specs.Check.{Joins}
-use Rattle.net.proofs.Accepted.{well-formed}
-use Rattle.paths.specs.Square.{put}
+use Rattle.paths.specs.inner.Rounds.{put}
 use Rattle.paths.specs.declared.cost.Cost.{Cost}
 use Rattle.paths.proofs.Cells.{Shaped}
 use Rattle.paths.proofs.Shape.{array-shaped, read-cell}
-use Rattle.tables.proofs.Detours.{detours-more}
-use Rattle.tables.proofs.Noting.{Changed, changed-start, changed-more, changed-row, noting, noted-read, ahead-node}
+use Rattle.tables.proofs.Detours.{noting, detours-more}
+use Rattle.tables.proofs.Noting.{Changed, changed-start, changed-more, changed-row, noted-read, ahead-node}
 use Rattle.tables.proofs.build.note_link.Statement.{statement}
 use Rattle.tables.proofs.build.note_link.Tie as tie
+
+abbrev given : ℕ → List ℕ → List ℕ → List ℕ → Rows
+given n low high weight = record { nodes = n; low = low; high = high; weight = weight }
 
 abbrev Inv-loop2 : tie.InvT-loop2
 Inv-loop2 n low high weight k all without x y next₀ i d₀ next d =
     (d ≤ n)
-    × ((kept : List (List Cost)) → Changed (noting low high k all without) n kept i 0 next₀ → Changed (noting low high k all without) n kept i d next)
+    × ((kept : List (List Cost)) → Changed (noting (given n low high weight) k all without) n kept i 0 next₀
+    → Changed (noting (given n low high weight) k all without) n kept i d next)
 
 abbrev μ-loop2 : tie.MeasureT-loop2
 μ-loop2 n low high weight k all without x y next₀ i d₀ next d = n - d
 
 abbrev Inv-loop : tie.InvT-loop
-Inv-loop n low high weight k all without x y next₀ i₀ next i = (i ≤ n) × Changed (noting low high k all without) n next₀ i 0 next
+Inv-loop n low high weight k all without x y next₀ i₀ next i =
+    (i ≤ n) × Changed (noting (given n low high weight) k all without) n next₀ i 0 next
 
 abbrev μ-loop : tie.MeasureT-loop
 μ-loop n low high weight k all without x y next₀ i₀ next i = n - i
+
+-- the network that was given
+abbrev rows : tie.Start Inv-loop2 μ-loop2 Inv-loop μ-loop → Rows
+rows c = given (c .args .n) (c .args .low .now) (c .args .high .now) (c .args .weight .now)
 
 -- the two squares have their shape
 shaped-all : (c : tie.Start Inv-loop2 μ-loop2 Inv-loop μ-loop) → Shaped (c .args .t2)
@@ -41,23 +50,27 @@ shaped-without : (c : tie.Start Inv-loop2 μ-loop2 Inv-loop μ-loop) → Shaped 
 shaped-without c = array-shaped _ (c .args .t3) (c .good .1 .1 .0 .0) (c .good .1 .1 .0 .1 .0 .1) (c .good .1 .1 .0 .1 .1)
 
 -- link k joins two nodes
-joins : (c : tie.Start Inv-loop2 μ-loop2 Inv-loop μ-loop) → Joins (c .args .n) (getD (c .args .low .now) (c .args .k) 0) (getD (c .args .high .now) (c .args .k) 0)
+joins : (c : tie.Start Inv-loop2 μ-loop2 Inv-loop μ-loop)
+    → Joins (c .args .n) (getD (c .args .low .now) (c .args .k) 0) (getD (c .args .high .now) (c .args .k) 0)
     (getD (c .args .weight .now) (c .args .k) 0)
-joins c = c .pre .0 .joins (c .args .k) (c .pre .1 .0)
+joins c = c .pre .network .joins (c .args .k) (c .pre .row)
+
+-- what the function was given, from where it has looked ahead
+abbrev start : tie.After-ahead-of Inv-loop2 μ-loop2 Inv-loop μ-loop → tie.Start Inv-loop2 μ-loop2 Inv-loop μ-loop
+start c = c .before .before .before .before .before .before .before .before .before .before .before
 
 -- the node ahead is a node
 ahead-in : (c : tie.After-ahead-of Inv-loop2 μ-loop2 Inv-loop μ-loop) → c .ahead-of .result < mostNodes
 ahead-in c =
-    let start = c .before .before .before .before .before .before .before .before .before .before .before in
+    let given = start c in
     let i = c .before .before .before .before .before .loop .i in
     let d = c .before .before .before .loop2 .d in
-    let args = start .args in
+    let args = given .args in
     let node : i < args .n = omega arith in
     let destination : d < args .n = omega arith in
-    let few = start .pre .0 .few-nodes in
-    let W = well-formed _ _ _ _ (start .pre .0) in
-    let ahead = ahead-node (args .n) (args .low .now) (args .high .now) (args .weight .now) W (start .pre .0 .some-node) (start .pre .1 .1 .0 i d node destination) in
-    rw (c .ahead-of .ensures, read-cell (args .t2) (shaped-all start) i d (omega arith) (omega arith) _) (omega arith)
+    let few = given .pre .network .few-nodes in
+    let ahead = ahead-node _ (given .pre .network) (given .pre .square i d node destination) in
+    rw (c .ahead-of .ensures, read-cell (args .t2) (shaped-all given) i d (omega arith) (omega arith) _) (omega arith)
 
 end-at-requires : tie.Need-end-at-requires Inv-loop2 μ-loop2 Inv-loop μ-loop
 end-at-requires c κs = tt
@@ -125,25 +138,25 @@ index-2-ahead : tie.Need-index-2-ahead Inv-loop2 μ-loop2 Inv-loop μ-loop
 index-2-ahead c = omega arith
 
 mul-one : tie.Need-mul-one Inv-loop2 μ-loop2 Inv-loop μ-loop
-mul-one c = let link = joins (c .before .before .before .before .before .before .before .before .before .before .before .before .before .before) in omega arith
+mul-one c = let link = joins (start (c .before .before .before)) in omega arith
 
 mul-one-2 : tie.Need-mul-one-2 Inv-loop2 μ-loop2 Inv-loop μ-loop
 mul-one-2 c = omega arith
 
 index-1-one : tie.Need-index-1-one Inv-loop2 μ-loop2 Inv-loop μ-loop
-index-1-one c = let link = joins (c .before .before .before .before .before .before .before .before .before .before .before .before .before .before) in omega arith
+index-1-one c = let link = joins (start (c .before .before .before)) in omega arith
 
 index-2-one : tie.Need-index-2-one Inv-loop2 μ-loop2 Inv-loop μ-loop
 index-2-one c = omega arith
 
 mul-other : tie.Need-mul-other Inv-loop2 μ-loop2 Inv-loop μ-loop
-mul-other c = let link = joins (c .before .before .before .before .before .before .before .before .before .before .before .before .before .before .before) in omega arith
+mul-other c = let link = joins (start (c .before .before .before .before)) in omega arith
 
 mul-other-2 : tie.Need-mul-other-2 Inv-loop2 μ-loop2 Inv-loop μ-loop
 mul-other-2 c = omega arith
 
 index-1-other : tie.Need-index-1-other Inv-loop2 μ-loop2 Inv-loop μ-loop
-index-1-other c = let link = joins (c .before .before .before .before .before .before .before .before .before .before .before .before .before .before .before) in omega arith
+index-1-other c = let link = joins (start (c .before .before .before .before)) in omega arith
 
 index-2-other : tie.Need-index-2-other Inv-loop2 μ-loop2 Inv-loop μ-loop
 index-2-other c = omega arith
@@ -172,19 +185,20 @@ loop2-less c = omega arith
 loop2-again : tie.Need-loop2-again Inv-loop2 μ-loop2 Inv-loop μ-loop
 unfolding put
 loop2-again c =
-    let start = c .before .before .before .before .before .before .before .before .before .before .before .before .before .before .before .before .before in
-    let at = c .before .before .before .before .before .before .before .before .before .loop2 in
-    let link = joins start in
-    let ahead = ahead-in (c .before .before .before .before .before .before) in (
+    let looked = c .before .before .before .before .before .before in
+    let at = looked .before .before .before .loop2 in
+    let given = start looked in
+    let link = joins given in
+    let ahead = ahead-in looked in (
       omega arith,
       λ kept C.
           let D = at .inv .1 kept C in
           changed-more D (omega arith) (omega arith)
-          (noted-read (start .args .low .now) (start .args .high .now) (start .args .k) (start .args .t2) (start .args .t3) (at .next)
-          (shaped-all start) (shaped-without start) (D .shaped) _ (at .d) (omega arith) (omega arith) ahead (omega arith) (omega arith) _
-          (c .before .before .before .before .before .before .ahead-of .ensures)
-          (c .before .before .before .before .before .before .before .before .before .before .before .before .before .end-at .ensures)
-          (c .before .before .before .before .before .before .before .before .before .before .before .before .end-at2 .ensures)
+          (noted-read (rows given) (given .args .k) (given .args .t2) (given .args .t3) (at .next)
+          (shaped-all given) (shaped-without given) (D .shaped) _ (at .d) (omega arith) (omega arith) ahead (omega arith) (omega arith) _
+          (looked .ahead-of .ensures)
+          (looked .before .before .before .before .before .before .before .end-at .ensures)
+          (looked .before .before .before .before .before .before .end-at2 .ensures)
           (c .noted-cost .ensures)),
     )
 
@@ -203,11 +217,8 @@ loop-again c =
 returns : tie.Need-returns Inv-loop2 μ-loop2 Inv-loop μ-loop
 returns c =
     let start = c .before .before .before .before .before .before .before in
-    let args = start .args in
     let all = c .before .loop in
-    detours-more (args .n) (args .low .now) (args .high .now) (args .weight .now) (well-formed _ _ _ _ (start .pre .0)) (start .pre .1 .0)
-    (args .t2) (args .t3) (start .pre .1 .1 .0) (start .pre .1 .1 .1 .0) (args .kept) (all .next) (start .pre .1 .1 .1 .1)
-    (λ i d node destination. all .inv .1 .passed i d destination (inl (omega arith)))
+    detours-more _ (start .pre) (all .next) (λ i d node destination. all .inv .1 .passed i d destination (inl (omega arith)))
 
 pub note-link-spec : {M : Type 1} → statement M
 note-link-spec =

@@ -2,7 +2,7 @@
 use mathlib.Core.Path.{sym, _∙_}
 use borrow.Author.Needs.{needs}
 use borrow.Author.Tests.{eq-eqb, ne-eqb}
-use Rattle.tables.specs.Fill.{noted}
+use Rattle.tables.specs.inner.Detours.{noted}
 use Rattle.tables.proofs.build.noted_cost.Statement.{statement}
 use Rattle.tables.proofs.build.noted_cost.Tie as tie
 
@@ -10,8 +10,8 @@ returns : tie.Need-returns
 unfolding noted
 returns c = simp (eq-eqb _ _ (c .if1 .taken))
 
-cast-reverse-of : tie.Need-cast-reverse-of
-cast-reverse-of c = search needs
+cast-t12 : tie.Need-cast-t12
+cast-t12 c = search needs
 
 reverse-of-requires : tie.Need-reverse-of-requires
 reverse-of-requires c κs = search needs
@@ -39,7 +39,7 @@ noted-cost-spec =
     tie.close
     (tie.spec
     returns
-    cast-reverse-of
+    cast-t12
     reverse-of-requires
     is-key-requires
     dearer-requires

@@ -1,7 +1,7 @@
 -- `entry_byte` makes the tests of `entryByte`.
 use borrow.Author.Needs.{needs}
 use borrow.Author.Tests.{eq-eqb, ne-eqb}
-use Rattle.tables.specs.Fill.{entryByte}
+use Rattle.tables.specs.inner.EntryRow.{entryByte}
 use Rattle.tables.proofs.entry.entry_byte.Statement.{statement}
 use Rattle.tables.proofs.entry.entry_byte.Tie as tie
 

@@ -4,7 +4,7 @@ use mathlib.Core.Path.{_≡_, sym, _∙_}
 use native.Mathlib.Omega.{arith}
 use borrow.Author.Needs.{needs}
 use lib.ListN.{length, length-set}
-use Rattle.tables.specs.Fill.{entryRow}
+use Rattle.tables.specs.inner.EntryRow.{entryRow}
 use Rattle.tables.proofs.EntryRows.{writtenTo, row-begin, row-on, row-done}
 use Rattle.tables.proofs.entry.fill_row.Statement.{statement}
 use Rattle.tables.proofs.entry.fill_row.Tie as tie

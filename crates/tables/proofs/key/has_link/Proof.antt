@@ -2,13 +2,13 @@
 use mathlib.Core.Path.{sym}
 use native.Mathlib.Omega.{arith}
 use borrow.Author.Needs.{needs}
-use Rattle.tables.specs.Key.{hasLink}
+use Rattle.tables.specs.inner.KeyTest.{hasLink}
 use Rattle.tables.proofs.KeySteps.{has-link-past}
 use Rattle.tables.proofs.key.has_link.Statement.{statement}
 use Rattle.tables.proofs.key.has_link.Tie as tie
 
 returns : tie.Need-returns
-returns c = sym (has-link-past (c .before .args .c) _ (omega arith) (c .if1 .taken))
+returns c = sym (has-link-past (c .before .before .args .c) _ (omega arith) (c .if1 .taken))
 
 known-requires : tie.Need-known-requires
 known-requires c κs = search needs

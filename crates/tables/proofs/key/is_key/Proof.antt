@@ -1,8 +1,7 @@
 -- `is_key` makes the tests of `keyTest`, in its order.
 use borrow.Author.Needs.{needs}
 use borrow.Author.Tests.{eq-eqb, ne-eqb, not-true, not-false}
-use Rattle.graph.specs.Network.{link}
-use Rattle.tables.specs.Key.{keyTest}
+use Rattle.tables.specs.inner.KeyTest.{keyTest}
 use Rattle.tables.proofs.key.is_key.Statement.{statement}
 use Rattle.tables.proofs.key.is_key.Tie as tie
 
@@ -22,11 +21,12 @@ reverse-of-requires c κs = search needs
 returns-2 : tie.Need-returns-2
 unfolding keyTest
 returns-2 c =
-    let known = c .before .before .before in
+    let reversed = c .before .before in
+    let known = reversed .before .before in
     simp (
       ← known .before .known .ensures,
       not-false (known .before .known .result) (known .if1 .left),
-      ← c .before .reverse-of .ensures,
+      ← reversed .reverse-of .ensures,
       ne-eqb _ _ (c .if2 .taken),
     )
 
@@ -37,56 +37,68 @@ returns-3 : tie.Need-returns-3
 unfolding keyTest
 returns-3 c =
     let back = c .before .before in
-    let known = back .before .before .before in
+    let reversed = back .before .before in
+    let known = reversed .before .before in
     simp (
       ← known .before .known .ensures,
       not-false (known .before .known .result) (known .if1 .left),
-      ← back .before .reverse-of .ensures,
+      ← reversed .reverse-of .ensures,
       eq-eqb _ _ (back .if2 .left),
       ← c .before .comes-before .ensures,
       not-true (c .before .comes-before .result) (c .if3 .taken),
     )
 
+link-of-requires : tie.Need-link-of-requires
+link-of-requires c κs = search needs
+
 has-link-requires : tie.Need-has-link-requires
 has-link-requires c κs = search needs
 
 returns-4 : tie.Need-returns-4
-unfolding keyTest link
+unfolding keyTest
 returns-4 c =
-    let falls = c .before .before in
+    let in-one = rw (c .before .before .link-of .ensures) at (c .before .has-link .ensures) in
+    let falls = c .before .before .before in
     let back = falls .before .before in
-    let known = back .before .before .before in
+    let reversed = back .before .before in
+    let known = reversed .before .before in
     simp (
       ← known .before .known .ensures,
       not-false (known .before .known .result) (known .if1 .left),
-      ← back .before .reverse-of .ensures,
+      ← reversed .reverse-of .ensures,
       eq-eqb _ _ (back .if2 .left),
       ← falls .before .comes-before .ensures,
       not-false (falls .before .comes-before .result) (falls .if3 .left),
-      ← c .before .has-link .ensures,
+      ← in-one,
       c .if4 .taken,
     )
+
+link-of-requires-2 : tie.Need-link-of-requires-2
+link-of-requires-2 c κs = search needs
 
 has-link-requires-2 : tie.Need-has-link-requires-2
 has-link-requires-2 c κs = search needs
 
 returns-5 : tie.Need-returns-5
-unfolding keyTest link
+unfolding keyTest
 returns-5 c =
-    let one = c .before in
-    let falls = one .before .before in
+    let in-other = rw (c .before .link-of2 .ensures) at (c .has-link2 .ensures) in
+    let one = c .before .before in
+    let in-one = rw (one .before .before .link-of .ensures) at (one .before .has-link .ensures) in
+    let falls = one .before .before .before in
     let back = falls .before .before in
-    let known = back .before .before .before in
+    let reversed = back .before .before in
+    let known = reversed .before .before in
     simp (
       ← known .before .known .ensures,
       not-false (known .before .known .result) (known .if1 .left),
-      ← back .before .reverse-of .ensures,
+      ← reversed .reverse-of .ensures,
       eq-eqb _ _ (back .if2 .left),
       ← falls .before .comes-before .ensures,
       not-false (falls .before .comes-before .result) (falls .if3 .left),
-      ← one .before .has-link .ensures,
+      ← in-one,
       one .if4 .left,
-      ← c .has-link2 .ensures,
+      ← in-other,
     )
 
 pub is-key-spec : {M : Type 1} → statement M
@@ -100,7 +112,9 @@ is-key-spec =
     returns-2
     comes-before-requires
     returns-3
+    link-of-requires
     has-link-requires
     returns-4
+    link-of-requires-2
     has-link-requires-2
     returns-5)

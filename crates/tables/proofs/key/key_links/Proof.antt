@@ -23,18 +23,17 @@ returns c =
 -- past the test the check has accepted
 passed : (c : tie.Else1)
     → let args = c .before .before .before .before .before .before .args in
-    keyLinksVerdict (args .n) (args .low .now) (args .high .now) (args .weight .now) (args .interface .0) (args .destination .0) .number
+    keyLinksVerdict (record { nodes = args .n; low = args .low .now; high = args .high .now; weight = args .weight .now })
+    (args .interface .0) (args .destination .0) .number
     ≡ accepted
 passed c = sym (ap (λ v. v .number) (c .before .before .key-links-verdict .ensures)) ∙ c .if1 .left
 
 keys-of-requires : tie.Need-keys-of-requires
-keys-of-requires c κs =
-    let asked = accepted-asked _ _ _ _ _ _ (passed c) in
-    (asked .network, (asked .interface, asked .destination))
+keys-of-requires c κs = accepted-asked _ _ _ (passed c)
 
 returns-2 : tie.Need-returns-2
 returns-2 c =
-    let answered = accepted-verdict _ _ _ _ _ _ (passed (c .before)) in
+    let answered = accepted-verdict _ _ _ (passed (c .before)) in
     record {
       number = sym (ap (λ v. v .number) answered);
       place = sym (ap (λ v. v .place) answered);

@@ -18,7 +18,8 @@ use Rattle.tables.proofs.key.keys_of.Tie as tie
 
 abbrev Inv-loop : tie.InvT-loop
 Inv-loop n low high weight h d i j links whole set₀ k₀ set k =
-    (links ≡ length low) × (k ≤ links) × KeysBelow n low high weight h d k set
+    (links ≡ length low) × (k ≤ links)
+    × KeysBelow (record { nodes = n; low = low; high = high; weight = weight }) h d k set
 
 abbrev μ-loop : tie.MeasureT-loop
 μ-loop n low high weight h d i j links whole set₀ k₀ set k = links - k
@@ -27,12 +28,12 @@ abbrev μ-loop : tie.MeasureT-loop
 head-row : (c : tie.After-head-of Inv-loop μ-loop) → c .head-of .result .0 < mostNodes
 head-row c =
     let start = c .before .before .before .before in
-    omega (arith, start .pre .0 .few-nodes, head-below _ _ _ _ (start .pre .0) _ (start .pre .1 .0), c .head-of .ensures)
+    omega (arith, start .pre .network .few-nodes, head-below (start .pre), c .head-of .ensures)
 
 tail-row : (c : tie.After-tail-of Inv-loop μ-loop) → c .tail-of .result .0 < mostNodes
 tail-row c =
     let start = c .before .before .before .before .before in
-    omega (arith, start .pre .0 .few-nodes, tail-below _ _ _ _ (start .pre .0) _ (start .pre .1 .0), c .tail-of .ensures)
+    omega (arith, start .pre .network .few-nodes, tail-below (start .pre), c .tail-of .ensures)
 
 -- link k joins two nodes
 joins : (c : tie.In-loop Inv-loop μ-loop)
@@ -41,17 +42,17 @@ joins : (c : tie.In-loop Inv-loop μ-loop)
     (getD (args .weight .now) (c .before .loop .k) 0)
 joins c =
     let start = c .before .before .before .before .before .before .before .before .before .before in
-    start .pre .0 .joins (c .before .loop .k) (omega arith)
+    start .pre .network .joins (c .before .loop .k) (omega arith)
 
 low-row : (c : tie.After-end-at Inv-loop μ-loop) → c .end-at .result < mostNodes
 low-row c =
     let start = c .before .before .before .before .before .before .before .before .before .before .before in
-    omega (arith, start .pre .0 .few-nodes, joins (c .before), c .end-at .ensures)
+    omega (arith, start .pre .network .few-nodes, joins (c .before), c .end-at .ensures)
 
 high-row : (c : tie.After-end-at2 Inv-loop μ-loop) → c .end-at2 .result < mostNodes
 high-row c =
     let start = c .before .before .before .before .before .before .before .before .before .before .before .before in
-    omega (arith, start .pre .0 .few-nodes, joins (c .before .before), c .end-at2 .ensures)
+    omega (arith, start .pre .network .few-nodes, joins (c .before .before), c .end-at2 .ensures)
 
 head-of-requires : tie.Need-head-of-requires Inv-loop μ-loop
 head-of-requires c κs = search needs
@@ -62,7 +63,7 @@ tail-of-requires c κs = search needs
 returns : tie.Need-returns Inv-loop μ-loop
 returns c =
     let start = c .before .before .before .before .before .before in
-    no-keys-here _ _ _ _ (start .pre .0) _ (start .pre .1 .0) _ (sym (c .before .before .head-of .ensures) ∙ c .if1 .taken)
+    no-keys-here (start .pre) (sym (c .before .before .head-of .ensures) ∙ c .if1 .taken)
 
 square-of-requires : tie.Need-square-of-requires Inv-loop μ-loop
 square-of-requires c κs = search needs
@@ -146,13 +147,13 @@ shl-set : tie.Need-shl-set Inv-loop μ-loop
 shl-set c =
     let turn = c .before .before .before .before .before .before .before .before .before in
     let start = turn .before .before .before .before .before .before .before .before .before .before in
-    omega (arith, start .pre .0 .few-links, turn .before .loop .inv .0, turn .loop-test .taken)
+    omega (arith, start .pre .network .few-links, turn .before .loop .inv .0, turn .loop-test .taken)
 
 add-k : tie.Need-add-k Inv-loop μ-loop
 add-k c =
     let turn = c .before .before .before .before .before .before .before .before .before in
     let start = turn .before .before .before .before .before .before .before .before .before .before in
-    omega (arith, start .pre .0 .few-links, turn .before .loop .inv .0, turn .loop-test .taken)
+    omega (arith, start .pre .network .few-links, turn .before .loop .inv .0, turn .loop-test .taken)
 
 loop-less : tie.Need-loop-less Inv-loop μ-loop
 loop-less c = omega arith
@@ -169,22 +170,20 @@ loop-again c =
     let tail-end = apart .before in
     let head-end = tail-end .before in
     let start = head-end .before .before .before .before in
-    let accepted = start .pre .0 in
-    let interface = start .pre .1 .0 in
     let number : at .k < length (start .args .low .now) = omega (arith, at .inv .0, turn .loop-test .taken) in
     let whole = all .square-of in
     let without = squared .square-of2 in
     let whole-shaped = array-shaped _ (whole .result) (whole .ok .0) (whole .ok .1 .0 .1) (whole .ok .1 .1) in
     let without-shaped = array-shaped _ (without .result) (without .ok .0) (without .ok .1 .0 .1) (without .ok .1 .1) in
     let key =
-    key-read _ _ _ _ accepted _ interface _ (start .pre .1 .1) whole-shaped without-shaped
+    key-read (start .pre) whole-shaped without-shaped
     (whole .ensures) (without .ensures) number (head-end .head-of .ensures) (tail-end .tail-of .ensures)
     (low-end .end-at .ensures) (high-end .end-at2 .ensures) (apart .if1 .left) hereCost in
     let test = sym (c .before .is-key .ensures) in (
       at .inv .0,
       omega (arith, at .inv .0),
       ⊎-elim
-          (λ w. rw (w .1, bit-kept (at .k) (omega (arith, accepted .few-links)))
+          (λ w. rw (w .1, bit-kept (at .k) (omega (arith, start .pre .network .few-links)))
           (keys-with number (key .0 (test ∙ w .0 .taken)) (at .inv .2)))
           (λ w. rw (w .1)
           (keys-without (λ k. false-true (sym (test ∙ w .0 .left) ∙ key .1 k)) (at .inv .2)))

@@ -1,33 +1,23 @@
--- How the code fills a row, and what it keeps of the detours: working notions of the inner contracts. The promises of the public entries
--- are in Key, Entry, Build and Row.
-use Prim.Native.Nat.{ℕ, zero, suc, _+_, _<_, _≤_, _%_}
-use mathlib.Core.Bool.{Bool, true, false, not}
+-- What the code keeps of the detours: for a node and a destination the dearest of the best paths that avoid one key link each, which
+-- avoids all of them (graph's Dearest). So the squares without one link are enough for the forwarding entries.
+use Prim.Native.Nat.{ℕ, _<_, _≤_}
+use mathlib.Core.Bool.{not}
 use mathlib.Core.Path.{_≡_}
 use mathlib.Core.Logic.{_≢_, _⊎_}
-use mathlib.Core.List.{List, [], _∷_}
-use lib.ListN.{getD, replicate}
+use mathlib.Core.List.{List, _∷_}
+use lib.ListN.{replicate}
 use lib.Dec.{eqb}
-use Rattle.graph.specs.Network.{Network, reverse, tail, head}
+use Rattle.graph.specs.Network.{Network, reverse}
 use Rattle.graph.specs.Path.{BestPath, But, weightSum}
 use Rattle.graph.specs.Set.{linkSet}
 use Rattle.graph.specs.Entries.{KeyLink}
 use Rattle.net.specs.Limits.{mostNodes}
-use Rattle.net.specs.Check.{pick, both}
-use Rattle.net.specs.Entry.{hereByte, nowhereByte}
+use Rattle.net.specs.Choice.{pick, both}
 use Rattle.net.specs.Rows.{headOf}
-use Rattle.paths.specs.Cost.{unknown, noCost, isKnown, before}
-use Rattle.paths.specs.Square.{cell}
+use Rattle.paths.specs.inner.Cost.{unknown, isKnown, before}
+use Rattle.paths.specs.inner.Square.{cell}
 use Rattle.paths.specs.declared.cost.Cost.{Cost}
-use Rattle.tables.specs.Key.{keyTest}
-
--- the entry of i for d that a cost gives, as a byte
-unfoldable pub entryByte : List ℕ → List ℕ → ℕ → ℕ → Cost → ℕ
-entryByte low high i d c = pick (eqb i d) hereByte (pick (isKnown c) (headOf low high (c .first) % 256) nowhereByte)
-
--- the entries of i for the `left` destinations from d on
-unfoldable pub entryRow : ℕ → List ℕ → List ℕ → ℕ → ℕ → List Cost → List ℕ
-entryRow zero low high i d costs = []
-entryRow (suc left) low high i d costs = entryByte low high i d (getD costs d noCost) ∷ entryRow left low high i (suc d) costs
+use Rattle.tables.specs.inner.KeyTest.{keyTest}
 
 -- the node after i on its way to d; 0 where there is none
 unfoldable pub aheadOf : List ℕ → List ℕ → ℕ → ℕ → Cost → ℕ
