@@ -1,217 +1,149 @@
--- The walk by the map is graph's walk. At a node, the map finds exactly the step that the entries say (steps): along the entry's link,
--- around it by the backwarding entry where it has failed, nothing to follow, or dropped. The backwarding entry is decided at the node
--- where the packet stands, as that is the tail of the interface that the entry names. So the code's step is the step (step-told), and
--- by induction on the hop limit its trail is the course of the walk, told by nodes and numbers (trail-course); a whole walk leaves the
--- answer and the trace that the contract names (walk-made).
-use Prim.Native.Nat.{ℕ, zero, suc, _+_, _*_, _<_}
-use mathlib.Core.Bool.{Bool, true, false}
-use mathlib.Core.Path.{_≡_, refl, ap, _∙_}
-use mathlib.Core.Logic.{_⊎_, inl, inr}
-use mathlib.Core.List.{List, _∷_, _++_, map}
-use mathlib.Core.Option.{Option, none, some}
-use native.Mathlib.Decide.{ℕ-discrete}
+-- The walk from where a packet stands, by the tests that the moves make, and what a move adds to answer and trace. Answer and trace go
+-- together: a move that crosses a link has stored its node one place on, so the rest of the walk from there is the whole.
+use Prim.Native.Nat.{ℕ, zero, suc, _+_, _*_, _-_, _<_}
+use mathlib.Core.Bool.{true, false}
+use mathlib.Core.Path.{_≡_, refl, sym, ap, subst, _∙_}
+use mathlib.Core.Logic.{_≢_}
+use mathlib.Core.List.{List, [], _∷_, _++_, map}
 use native.Mathlib.Omega.{arith}
-use native.Mathlib.Nat.{zero-add}
-use borrow.Author.Tests.{eq-eqb, ne-eqb}
-use lib.ListN.{length, getD, drop, length-map}
-use lib.Dec.{eqb}
-use Rattle.graph.specs.Network.{Network, link, head}
+use lib.ListN.{length, getD, set, drop, length-map}
+use Rattle.graph.specs.Network.{Network, link, tail, head}
 use Rattle.graph.specs.Path.{visits}
-use Rattle.graph.specs.Entries.{Hop, here, onward, nowhere}
-use Rattle.graph.specs.Walk.{Tables, Step, crosses, nothing, drops, around, stepBy, Course, endsBy, crossing, walkFrom, walkOf}
-use Rattle.graph.specs.Walk.{Ending, unrouted, dropped, astray}
+use Rattle.graph.specs.Entries.{Hop, onward}
+use Rattle.graph.specs.Walk.{Ending, delivered, dropped, exhausted, Course, endsBy, crossing, walkOf}
+use Rattle.graph.proofs.Moves.{Leadless, walk-delivered, walk-exhausted, walk-lost, walk-on, walk-turns}
+use Rattle.graph.proofs.Moves.{around-lost, around-drops, around-on}
 use Rattle.net.specs.Refusals.{accepted}
-use Rattle.net.specs.Check.{pick, Accepted}
-use Rattle.net.specs.Entry.{hereByte, nowhereByte}
-use Rattle.net.specs.Rows.{networkOf, tailOf, headOf}
-use Rattle.net.specs.declared.interface.Failure.{Failure}
-use Rattle.walk.specs.Lent.{leads, hopAt, tablesFor}
-use Rattle.walk.specs.Step.{fails, told}
-use Rattle.walk.specs.Walk.{endingNumber, walkVerdict, courseOf, walkedBy, walkAnswer, traceAfter}
-use Rattle.walk.specs.Moves.{Neighbours, foundIn, Trail, ends, enters, aroundBy, alongBy, trailFrom, traced, WentFrom}
-use Rattle.walk.specs.Moves.{stepAround, stepAlong, stepIn}
-use Rattle.walk.specs.declared.lent.Found.the-variants.{Next, Absent}
-use Rattle.walk.specs.declared.steps.Stepped.the-variants.{Delivered}
-use Rattle.walk.specs.declared.moves.Course as moves
-use Rattle.walk.proofs.Lookup.{interface-found, head-below, foundBy, found-hop}
+use Rattle.net.specs.Rows.{Rows, networkOf}
+use Rattle.net.specs.Failure.{fails}
+use Rattle.net.specs.inner.Overwritten.{overwritten}
+use Rattle.net.specs.declared.interface.Node.{Node}
+use Rattle.net.proofs.Overwrite.{over-none, over-first, over-start}
+use Rattle.tables.specs.Lent.{LentTables}
+use Rattle.walk.specs.Lent.{hopAt, tablesFor}
+use Rattle.walk.specs.Walk.{endingNumber, courseOf}
+use Rattle.walk.specs.inner.Ground.{Ground}
+use Rattle.walk.specs.inner.Moves.{lostEnding, movedOn, courseFrom, courseAround, Went, WentFrom}
+use Rattle.walk.specs.declared.question.Question.{Question}
+use Rattle.walk.specs.declared.moves.Packet.{Packet}
+use Rattle.walk.specs.declared.moves.Outcome.{Outcome}
+use Rattle.walk.proofs.Grounds.{forwarding-read, backwarding-read}
 
--- the interface that a byte names at node i is present, and leaves i
-hop-names : (a b : Bool) (o : Option ℕ) {f : ℕ} → pick a here (pick b nowhere (leads o)) ≡ onward f → o ≡ some f
-unfolding leads
-hop-names true b o e = absurd (let z : _≡_ {A = ℕ} 0 1 = cc in omega arith)
-hop-names false true o e = absurd (let z : _≡_ {A = ℕ} 0 1 = cc in omega arith)
-hop-names false false none e = absurd (let z : _≡_ {A = ℕ} 0 1 = cc in omega arith)
-hop-names false false (some g) e = cc
+module _ {n : ℕ} {map forwarding backwarding : List ℕ} (on : Ground n map forwarding backwarding) (question : Question) (packet : Packet)
+  where
+    abbrev R : Rows
+    R = on .rows
 
-hop-onward : (low high : List ℕ) (i byte : ℕ) {f : ℕ} → hopAt low high i byte ≡ onward f → (f < 2 * length low) × (tailOf low high f ≡ i)
-unfolding hopAt
-hop-onward low high i byte {f} e =
-    let (f-below, t, h) = interface-found low high i byte (hop-names (eqb byte hereByte) (eqb byte nowhereByte) _ e) in
-    (f-below, t)
+    abbrev T : LentTables
+    T = on .tables
 
-true-or-false : (b : Bool) → (b ≡ true) ⊎ (b ≡ false)
-true-or-false true = inl refl
-true-or-false false = inr refl
+    abbrev N : Network
+    N = networkOf R
 
--- the step over an interface, by whether its link has failed
-module _ (failed : ℕ → Bool) (f : ℕ) where
-  step-along : (entry : ℕ → Hop) → failed (link f) ≡ false → stepBy failed entry (onward f) ≡ crosses f
-  unfolding stepBy
-  step-along entry up = rw (up, stepBy)
+    abbrev i : ℕ
+    i = packet .node .0
 
-  step-around : (entry : ℕ → Hop) → failed (link f) ≡ true → stepBy failed entry (onward f) ≡ around failed (entry f)
-  unfolding stepBy
-  step-around entry down = rw (down, stepBy)
+    abbrev d : ℕ
+    d = question .destination .0
 
-  around-along : failed (link f) ≡ false → around failed (onward f) ≡ crosses f
-  unfolding around
-  around-along up = rw (up, around)
-
-  around-failed : failed (link f) ≡ true → around failed (onward f) ≡ drops
-  unfolding around
-  around-failed down = rw (down, around)
-
--- how the map finds what a step says
-data StepFound (n : ℕ) (low high map backwarding : List ℕ) (d : ℕ) (failure : Failure) (i byte : ℕ) : Step → Type 0 where
-  absent : foundIn map i byte ≡ Absent → StepFound n low high map backwarding d failure i byte nothing
-  along : (f : ℕ) → f < 2 * length low → foundIn map i byte ≡ Next (headOf low high f) f → fails failure (link f) ≡ false
-      → StepFound n low high map backwarding d failure i byte (crosses f)
-  round : (v f g : ℕ) → g < 2 * length low → foundIn map i byte ≡ Next v f → fails failure (link f) ≡ true
-      → foundIn map i (getD backwarding (f * n + d) 0) ≡ Next (headOf low high g) g → fails failure (link g) ≡ false
-      → StepFound n low high map backwarding d failure i byte (crosses g)
-  no-way-round : (v f : ℕ) → foundIn map i byte ≡ Next v f → fails failure (link f) ≡ true
-      → foundIn map i (getD backwarding (f * n + d) 0) ≡ Absent
-      → StepFound n low high map backwarding d failure i byte drops
-  round-failed : (v f w g : ℕ) → foundIn map i byte ≡ Next v f → fails failure (link f) ≡ true
-      → foundIn map i (getD backwarding (f * n + d) 0) ≡ Next w g → fails failure (link g) ≡ true
-      → StepFound n low high map backwarding d failure i byte drops
-
--- a course told by the nodes entered and the number of its ending
-unfoldable pub trailOf : Network → Course → Trail
-trailOf N course = record { nodes = map (head N) (course .crossed); ending = endingNumber (course .ending) }
-
-module _ (n : ℕ) (low high weight table : List ℕ) (A : Accepted n low high weight) (M : Neighbours low high table)
-    (routing forwarding backwarding : List ℕ) (d : ℕ) (failure : Failure) where
-  abbrev N : Network
-  N = networkOf n low high weight
-
-  abbrev T : Tables
-  T = tablesFor n low high routing forwarding backwarding d
-
-  -- what the map says of a byte, from the hop that it is
-  found-as : {h : Hop} (i byte : ℕ) → i < n → hopAt low high i byte ≡ h → foundIn table i byte ≡ foundBy low high h
-  found-as i byte i-node e = found-hop n low high weight table A M i byte i-node ∙ ap (foundBy low high) e
-
-  steps : (i byte : ℕ) → i < n
-      → StepFound n low high table backwarding d failure i byte (stepBy (fails failure) (T .backwarding) (hopAt low high i byte))
-  unfolding stepBy around foundBy tablesFor
-  steps i byte i-node = go (hopAt low high i byte) refl
-    where
-      turn : (f : ℕ) → foundIn table i byte ≡ Next (headOf low high f) f → fails failure (link f) ≡ true
-          → (h : Hop) → hopAt low high i (getD backwarding (f * n + d) 0) ≡ h
-          → StepFound n low high table backwarding d failure i byte (around (fails failure) h)
-      turn f e down here q = no-way-round _ f e down (found-as i _ i-node q)
-      turn f e down nowhere q = no-way-round _ f e down (found-as i _ i-node q)
-      turn f e down (onward g) q =
-          let e₂ = found-as i (getD backwarding (f * n + d) 0) i-node q in
-          elim (true-or-false (fails failure (link g))) [
-            | inl too ↦ rw (around-failed (fails failure) g too) (round-failed _ f _ g e down e₂ too)
-            | inr up ↦ rw (around-along (fails failure) g up) (round _ f g (hop-onward low high i _ q .0) e down e₂ up)
-          ]
-
-      go : (h : Hop) → hopAt low high i byte ≡ h
-          → StepFound n low high table backwarding d failure i byte (stepBy (fails failure) (T .backwarding) h)
-      go here q = absent (found-as i byte i-node q)
-      go nowhere q = absent (found-as i byte i-node q)
-      go (onward f) q =
-          let (f-below, t) = hop-onward low high i byte q in
-          let e = found-as i byte i-node q in
-          elim (true-or-false (fails failure (link f))) [
-            | inl down ↦ rw (step-around (fails failure) f (T .backwarding) down, t) (turn f e down _ refl)
-            | inr up ↦ rw (step-along (fails failure) f (T .backwarding) up) (along f f-below e up)
-          ]
-
-  -- a move and its step: where going on over an interface tells a course's trail, so does the move
-  move-trail : (on : ℕ → Course) (next : ℕ → ℕ → Trail)
-      → ((f : ℕ) → f < 2 * length low → next (headOf low high f) f ≡ trailOf N (crossing f (on f)))
-      → (i byte : ℕ) (lost : Ending) {s : Step} → StepFound n low high table backwarding d failure i byte s
-      → alongBy failure (endingNumber lost) (λ f. aroundBy failure next (foundIn table i (getD backwarding (f * n + d) 0))) next
-      (foundIn table i byte)
-      ≡ trailOf N (elim s [ crosses f ↦ crossing f (on f) | nothing ↦ endsBy lost | drops ↦ endsBy dropped ])
-  unfolding alongBy aroundBy ends trailOf endsBy endingNumber
-  move-trail on next goes i byte lost (absent e) = rw e
-  move-trail on next goes i byte lost (along f f-below e up) = rw (e, up) (goes f f-below)
-  move-trail on next goes i byte lost (round v f g g-below e down e₂ up) = rw (e, down, e₂, up) (goes g g-below)
-  move-trail on next goes i byte lost (no-way-round v f e down e₂) = rw (e, down, e₂)
-  move-trail on next goes i byte lost (round-failed v f w g e down e₂ too) = rw (e, down, e₂, too)
-
-  pub trail-course : (limit i byte : ℕ) (lost : Ending) → i < n
-      → trailFrom limit table n forwarding backwarding d failure i byte (endingNumber lost)
-      ≡ trailOf N (walkFrom N (fails failure) T d limit i (hopAt low high i byte) lost)
-  unfolding trailFrom walkFrom ends endsBy trailOf endingNumber head crossing enters tablesFor
-  trail-course zero i byte lost i-node =
-      elim (ℕ-discrete i d) [ yes e ↦ rw (eq-eqb i d e, walkFrom) | no e ↦ rw (ne-eqb i d e, walkFrom) ]
-  trail-course (suc limit) i byte lost i-node =
-      elim (ℕ-discrete i d) [
-        | yes e ↦ rw (eq-eqb i d e, walkFrom)
-        | no e ↦ rw (ne-eqb i d e, walkFrom)
-            (move-trail
-            (λ f. walkFrom N (fails failure) T d limit (head N f) (T .forwarding f) astray)
-            (λ v f. enters v (trailFrom limit table n forwarding backwarding d failure v (getD forwarding (f * n + d) 0) 4))
-            (λ f f-below.
-            ap (enters (headOf low high f))
-            (trail-course limit (headOf low high f) (getD forwarding (f * n + d) 0) astray (head-below n low high weight A f f-below)))
-            i byte lost (steps i byte i-node))
-      ]
-
-  move-told : (i byte : ℕ) {s : Step} → StepFound n low high table backwarding d failure i byte s
-      → stepAlong failure (λ f. stepAround failure (foundIn table i (getD backwarding (f * n + d) 0))) (foundIn table i byte)
-      ≡ told low high s
-  unfolding stepAlong stepAround told
-  move-told i byte (absent e) = rw e
-  move-told i byte (along f f-below e up) = rw (e, up)
-  move-told i byte (round v f g g-below e down e₂ up) = rw (e, down, e₂, up)
-  move-told i byte (no-way-round v f e down e₂) = rw (e, down, e₂)
-  move-told i byte (round-failed v f w g e down e₂ too) = rw (e, down, e₂, too)
-
-  -- the code's step is the step
-  pub step-told : (i byte : ℕ) → i < n
-      → stepIn table n backwarding d failure i byte
-      ≡ pick (eqb i d) Delivered (told low high (stepBy (fails failure) (T .backwarding) (hopAt low high i byte)))
-  unfolding stepIn
-  step-told i byte i-node = ap (pick (eqb i d) Delivered) (move-told i byte (steps i byte i-node))
-
-  -- A whole walk by the map: its answer and the trace that it leaves are those of graph's walk over the same tables.
-  module _ (s limit : ℕ) (before : List ℕ) (s-node : s < n) {r : moves.Course} {after : List ℕ}
-      (went : WentFrom s (trailFrom limit table n forwarding backwarding d failure s (getD routing (s * n + d) 0) (endingNumber unrouted))
-      before r after) where
     abbrev course : Course
-    course = courseOf n low high weight routing forwarding backwarding s d failure limit
+    course = courseFrom R T question packet
 
-    whole-trail : trailFrom limit table n forwarding backwarding d failure s (getD routing (s * n + d) 0) (endingNumber unrouted)
-        ≡ trailOf N course
-    unfolding courseOf walkOf tablesFor
-    whole-trail = trail-course limit s (getD routing (s * n + d) 0) unrouted s-node
+    -- the packet after one hop more, over interface f to node v
+    abbrev beyond : Node → ℕ → Packet
+    beyond v f = movedOn packet v (getD forwarding (f * n + d) 0)
 
-    pub walk-ending : r .ending ≡ endingNumber (course .ending)
-    unfolding trailOf
-    walk-ending = went .ending ∙ ap (λ (t : Trail). t .ending) whole-trail
+    pub course-delivered : i ≡ d → course ≡ endsBy delivered
+    unfolding courseFrom
+    course-delivered e = walk-delivered N _ _ d i (packet .left) _ _ e
 
-    pub walk-hops : r .hops ≡ length (course .crossed)
-    unfolding trailOf
-    walk-hops = went .hops ∙ ap (λ (t : Trail). length (t .nodes)) whole-trail ∙ length-map (course .crossed) (head N)
+    module _ (away : i ≢ d) where
+      pub course-exhausted : packet .left ≡ 0 → course ≡ endsBy exhausted
+      unfolding courseFrom
+      course-exhausted e = walk-exhausted N _ _ d i away (packet .left) _ _ e
 
-    pub walk-trace : after ≡ visits N s (course .crossed) ++ drop (length (visits N s (course .crossed))) before
-    unfolding trailOf traced visits
-    walk-trace = went .trace ∙ ap (λ (t : Trail). traced before 0 (s ∷ t .nodes)) whole-trail ∙ simp zero-add
+      module _ (some : packet .left ≢ 0) where
+        pub course-lost : Leadless (hopAt R i (packet .entry)) → course ≡ endsBy (lostEnding (packet .arrived))
+        unfolding courseFrom
+        course-lost l = walk-lost N _ _ d i away (packet .left) some _ _ l
 
-    -- the two promises of `walk`, where nothing is refused
-    module _ (fine : walkVerdict n low high weight routing forwarding backwarding s d failure limit before .number ≡ accepted) where
-      pub walk-made : record { number = accepted; place = 0; ending = r .ending; hops = r .hops }
-          ≡ walkAnswer n low high weight routing forwarding backwarding s d failure limit before
-      unfolding walkAnswer walkedBy
-      walk-made = rw (eq-eqb _ accepted fine, walk-ending, walk-hops)
+        module _ (f : ℕ) (leads : hopAt R i (packet .entry) ≡ onward f) where
+          pub course-turns : fails (question .failure) (link f) ≡ true → course ≡ courseAround R T question packet f
+          unfolding courseFrom courseAround
+          course-turns down = rw leads (walk-turns N _ _ d i away (packet .left) some _ f down)
 
-      pub trace-made : after ≡ traceAfter n low high weight routing forwarding backwarding s d failure limit before
-      unfolding traceAfter
-      trace-made = rw (eq-eqb _ accepted fine) walk-trace
+          pub course-on : (v : Node) → v .0 ≡ head N f → fails (question .failure) (link f) ≡ false
+              → course ≡ crossing f (courseFrom R T question (beyond v f))
+          unfolding courseFrom movedOn lostEnding
+          course-on v enters up =
+              rw leads
+              (walk-on N _ _ d i away (packet .left) some _ f up
+              ∙ rw (forwarding-read on d f (v .0) (sym enters), enters))
+
+    module _ (f : ℕ) (leaves : tail N f ≡ i) where
+      pub turned-lost : Leadless (hopAt R i (getD backwarding (f * n + d) 0)) → courseAround R T question packet f ≡ endsBy dropped
+      unfolding courseAround
+      turned-lost l = rw (backwarding-read on d f i leaves) (around-lost N _ _ d i (packet .left - 1) _ l)
+
+      module _ (g : ℕ) (leads : hopAt R i (getD backwarding (f * n + d) 0) ≡ onward g) where
+        pub turned-drops : fails (question .failure) (link g) ≡ true → courseAround R T question packet f ≡ endsBy dropped
+        unfolding courseAround
+        turned-drops down = rw (backwarding-read on d f i leaves, leads) (around-drops N _ _ d i (packet .left - 1) g down)
+
+        pub turned-on : (v : Node) → v .0 ≡ head N g → fails (question .failure) (link g) ≡ false
+            → courseAround R T question packet f ≡ crossing g (courseFrom R T question (beyond v g))
+        unfolding courseAround courseFrom movedOn lostEnding
+        turned-on v enters up =
+            rw (backwarding-read on d f i leaves, leads)
+            (around-on N _ _ d i (packet .left - 1) g up ∙ rw (forwarding-read on d g (v .0) (sym enters), enters))
+
+-- a walk that ends here; one that goes on over a link
+module _ (N : Network) {course : Course} (hops : ℕ) (trace : List ℕ) where
+  pub went-ends : (e : Ending) (number : ℕ) → number ≡ endingNumber e → course ≡ endsBy e
+      → Went N course hops trace (record { ending = number; hops = hops }) trace
+  unfolding endsBy
+  went-ends e number told is =
+      rw is (record { ending = told; hops-more = omega arith; trace = sym (over-none trace (hops + 1)) })
+
+  pub went-on : {rest : Course} {r : Outcome} {after : List ℕ} (f v : ℕ) → v ≡ head N f → course ≡ crossing f rest
+      → hops + 1 < length trace → Went N rest (hops + 1) (set trace (hops + 1) v) r after → Went N course hops trace r after
+  unfolding crossing
+  went-on f v enters is room went =
+      rw is
+      (record {
+        ending = went .ending;
+        hops-more = omega (arith, went .hops-more);
+        trace = went .trace ∙ rw (← enters) (sym (over-first trace (hops + 1) v _ room));
+      })
+
+-- a move that makes the same course as another
+pub went-same : (N : Network) {course other : Course} (hops : ℕ) (trace : List ℕ) {r : Outcome} {after : List ℕ} → course ≡ other
+    → Went N other hops trace r after → Went N course hops trace r after
+went-same N hops trace same went = rw same went
+
+-- a move that crosses interface f and hands the packet on
+module _ {n : ℕ} {map forwarding backwarding : List ℕ} (on : Ground n map forwarding backwarding) (question : Question)
+    (packet next : Packet) (v : Node) (f : ℕ) where
+  pub went-over : {whole : Course} {trace after : List ℕ} {r : Outcome}
+      → whole ≡ crossing f (courseFrom (on .rows) (on .tables) question (beyond on question packet v f))
+      → next ≡ beyond on question packet v f → v .0 ≡ head (networkOf (on .rows)) f → packet .hops + 1 < length trace
+      → Went (networkOf (on .rows)) (courseFrom (on .rows) (on .tables) question next) (next .hops)
+      (set trace (packet .hops + 1) (v .0)) r after
+      → Went (networkOf (on .rows)) whole (packet .hops) trace r after
+  unfolding movedOn
+  went-over {whole} {trace} {after} {r} is moved enters room went =
+      let N = networkOf (on .rows) in
+      let stored = set trace (packet .hops + 1) (v .0) in
+      went-on N (packet .hops) trace f (v .0) enters is room
+      (subst (λ (p : Packet). Went N (courseFrom (on .rows) (on .tables) question p) (p .hops) stored r after) moved went)
+
+-- a whole walk from its source
+pub went-from : (N : Network) {course : Course} {r : Outcome} {after : List ℕ} (s : ℕ) (trace : List ℕ)
+    → 0 < length trace → Went N course 0 (set trace 0 s) r after → WentFrom N s course trace r after
+unfolding visits
+went-from N s trace room went =
+    record {
+      ending = went .ending;
+      hops = omega (arith, went .hops-more);
+      trace = went .trace ∙ sym (over-first trace 0 s _ room);
+    }

@@ -1,77 +1,93 @@
 -- The step by the tests that the code makes: past the failed link, at the node, and where it is asked.
-use Prim.Native.Nat.{ℕ, _+_, _*_, _/_, _<_}
+use Prim.Native.Nat.{ℕ, _+_, _*_}
 use mathlib.Core.Bool.{true, false}
-use mathlib.Core.Path.{_≡_}
+use mathlib.Core.Path.{_≡_, refl, sym, ap, _∙_}
 use mathlib.Core.Logic.{_≢_}
 use mathlib.Core.List.{List}
 use borrow.Author.Tests.{eq-eqb, ne-eqb}
-use lib.ListN.{length, getD}
-use Rattle.graph.specs.Network.{link}
-use Rattle.net.specs.Check.{Accepted}
-use Rattle.net.specs.Rows.{headOf}
-use Rattle.net.specs.declared.interface.Failure.{Failure}
+use lib.ListN.{getD}
+use Rattle.graph.specs.Network.{link, tail, head}
+use Rattle.graph.specs.Entries.{Hop, onward}
+use Rattle.graph.proofs.Moves.{Leadless, step-nothing, step-along, step-around, around-nothing, around-along, around-failed}
+use Rattle.net.specs.Rows.{Rows, networkOf}
+use Rattle.net.specs.Failure.{fails}
 use Rattle.net.specs.declared.interface.Interface.{Interface}
 use Rattle.net.specs.declared.interface.Node.{Node}
-use Rattle.walk.specs.Lent.{tablesFor}
-use Rattle.walk.specs.Step.{fails, decides, entryRead, stepOf}
-use Rattle.walk.specs.Moves.{Neighbours, foundIn, stepAround, stepAlong, stepIn}
-use Rattle.walk.specs.declared.lent.Found.{Found}
-use Rattle.walk.specs.declared.lent.Found.the-variants.{Next, Absent}
+use Rattle.tables.specs.Lent.{LentTables}
+use Rattle.walk.specs.Lent.{hopAt, tablesFor}
+use Rattle.walk.specs.Step.{decides, entryRead, told, stepAt, stepOf}
+use Rattle.walk.specs.inner.Ground.{Ground}
+use Rattle.walk.specs.inner.Steps.{stepAround}
+use Rattle.walk.specs.declared.question.Question.{Question}
 use Rattle.walk.specs.declared.steps.Asked.{Asked}
 use Rattle.walk.specs.declared.steps.Asked.the-variants.{Start, Arrival}
-use Rattle.walk.specs.declared.steps.Stepped.the-variants.{Delivered, NothingToFollow, Dropped, Next as To}
-use Rattle.walk.proofs.Courses.{step-told}
-use Rattle.walk.proofs.Lookup.{head-below}
+use Rattle.walk.specs.declared.steps.Stepped.{Stepped}
+use Rattle.walk.specs.declared.steps.Stepped.the-variants.{Delivered, NothingToFollow, Dropped, Next}
+use Rattle.walk.proofs.Grounds.{backwarding-read}
 
-module _ (failure : Failure) (found : Found) where
-  pub around-absent : found ≡ Absent → stepAround failure found ≡ Dropped
-  unfolding stepAround
-  around-absent e = rw e
+module _ {n : ℕ} {map forwarding backwarding : List ℕ} (on : Ground n map forwarding backwarding) (question : Question) (i : ℕ) where
+  abbrev R : Rows
+  R = on .rows
 
-  module _ (v g : ℕ) (next : found ≡ Next v g) where
-    pub around-fails : fails failure (g / 2) ≡ true → stepAround failure found ≡ Dropped
-    unfolding stepAround link
-    around-fails e = rw (next, e)
+  abbrev T : LentTables
+  T = on .tables
 
-    pub around-crosses : fails failure (g / 2) ≡ false → stepAround failure found ≡ To (record { 0 = v }) (record { 0 = g })
-    unfolding stepAround link
-    around-crosses e = rw (next, e)
+  abbrev d : ℕ
+  d = question .destination .0
 
-module _ (map : List ℕ) (n : ℕ) (backwarding : List ℕ) (d : ℕ) (failure : Failure) (i byte : ℕ) where
-  pub step-delivered : i ≡ d → stepIn map n backwarding d failure i byte ≡ Delivered
-  unfolding stepIn
-  step-delivered e = simp (eq-eqb _ _ e)
+  -- an interface crossed is answered with the node that it enters
+  crossed : (v : Node) (f : Interface) → v .0 ≡ head (networkOf R) (f .0) → Next v f ≡ Next (record { 0 = head (networkOf R) (f .0) }) f
+  crossed v f enters = λ t. Next (record { 0 = enters t }) f
 
-  module _ (under : i ≢ d) where
-    pub step-lost : foundIn map i byte ≡ Absent → stepIn map n backwarding d failure i byte ≡ NothingToFollow
-    unfolding stepIn stepAlong
-    step-lost e = simp (ne-eqb _ _ under, e)
+  -- past the failed link, by the backwarding entry of interface f
+  module _ (f : ℕ) (leaves : tail (networkOf R) f ≡ i) where
+    pub around-absent : Leadless (hopAt R i (getD backwarding (f * n + d) 0)) → Dropped ≡ stepAround R T question f
+    unfolding stepAround told
+    around-absent l = rw (backwarding-read on d f i leaves, around-nothing (fails (question .failure)) l)
 
-    module _ (v f : ℕ) (next : foundIn map i byte ≡ Next v f) where
-      pub step-turns : fails failure (f / 2) ≡ true
-          → stepIn map n backwarding d failure i byte ≡ stepAround failure (foundIn map i (getD backwarding (f * n + d) 0))
-      unfolding stepIn stepAlong link
-      step-turns e = simp (ne-eqb _ _ under, next, e)
+    module _ (g : Interface) (leads : hopAt R i (getD backwarding (f * n + d) 0) ≡ onward (g .0)) where
+      pub around-drops : fails (question .failure) (link (g .0)) ≡ true → Dropped ≡ stepAround R T question f
+      unfolding stepAround told
+      around-drops down = rw (backwarding-read on d f i leaves, leads, around-failed (fails (question .failure)) (g .0) down)
 
-      pub step-crosses : fails failure (f / 2) ≡ false
-          → stepIn map n backwarding d failure i byte ≡ To (record { 0 = v }) (record { 0 = f })
-      unfolding stepIn stepAlong link
-      step-crosses e = simp (ne-eqb _ _ under, next, e)
+      pub around-crosses : (v : Node) → v .0 ≡ head (networkOf R) (g .0) → fails (question .failure) (link (g .0)) ≡ false
+          → Next v g ≡ stepAround R T question f
+      unfolding stepAround told
+      around-crosses v enters up =
+          rw (backwarding-read on d f i leaves, leads, around-along (fails (question .failure)) (g .0) up) (crossed v g enters)
+
+  -- at the node, by the entry that is read there
+  pub step-delivered : (entry : Hop) → i ≡ d → Delivered ≡ stepAt R T question i entry
+  unfolding stepAt
+  step-delivered entry e = rw (eq-eqb i d e)
+
+  module _ (away : i ≢ d) where
+    pub step-lost : (entry : Hop) → Leadless entry → NothingToFollow ≡ stepAt R T question i entry
+    unfolding stepAt told
+    step-lost entry l = rw (ne-eqb i d away, step-nothing (fails (question .failure)) (tablesFor R T d .backwarding) l)
+
+    module _ (byte : ℕ) (f : Interface) (leads : hopAt R i byte ≡ onward (f .0)) where
+      pub step-turns : fails (question .failure) (link (f .0)) ≡ true
+          → stepAround R T question (f .0) ≡ stepAt R T question i (hopAt R i byte)
+      unfolding stepAt stepAround
+      step-turns down = rw (ne-eqb i d away, leads, step-around (fails (question .failure)) (f .0) (tablesFor R T d .backwarding) down)
+
+      pub step-crosses : (v : Node) → v .0 ≡ head (networkOf R) (f .0) → fails (question .failure) (link (f .0)) ≡ false
+          → Next v f ≡ stepAt R T question i (hopAt R i byte)
+      unfolding stepAt told
+      step-crosses v enters up =
+          rw (ne-eqb i d away, leads, step-along (fails (question .failure)) (f .0) (tablesFor R T d .backwarding) up) (crossed v f enters)
 
 -- the step where it is asked
-module _ (n : ℕ) (low high weight table : List ℕ) (A : Accepted n low high weight) (M : Neighbours low high table)
-    (routing forwarding backwarding : List ℕ) (asked : Asked) (d : ℕ) (failure : Failure) where
-  pub start-steps : (i : Node) → asked ≡ Start i → i .0 < n
-      → stepIn table n backwarding d failure (i .0) (getD routing (i .0 * n + d) 0)
-      ≡ stepOf n low high routing forwarding backwarding asked d failure
+module _ (R : Rows) (T : LentTables) (asked : Asked) (question : Question) where
+  pub start-steps : (i : Node) → asked ≡ Start i
+      → stepAt R T question (i .0) (hopAt R (i .0) (getD (T .routing) (i .0 * R .nodes + question .destination .0) 0))
+      ≡ stepOf R T asked question
   unfolding stepOf decides entryRead tablesFor
-  start-steps i e h = rw e (step-told n low high weight table A M routing forwarding backwarding d failure (i .0) _ h)
+  start-steps i e = rw e
 
-  pub arrival-steps : (h : Interface) {i : ℕ} → asked ≡ Arrival h → h .0 < 2 * length low → i ≡ headOf low high (h .0)
-      → stepIn table n backwarding d failure i (getD forwarding (h .0 * n + d) 0)
-      ≡ stepOf n low high routing forwarding backwarding asked d failure
+  pub arrival-steps : (h : Interface) (i : Node) → asked ≡ Arrival h → i .0 ≡ head (networkOf R) (h .0)
+      → stepAt R T question (i .0) (hopAt R (i .0) (getD (T .forwarding) (h .0 * R .nodes + question .destination .0) 0))
+      ≡ stepOf R T asked question
   unfolding stepOf decides entryRead tablesFor
-  arrival-steps h e below same =
-      rw (e, same)
-      (step-told n low high weight table A M routing forwarding backwarding d failure (headOf low high (h .0)) _
-      (head-below n low high weight A (h .0) below))
+  arrival-steps h i e same = rw (e, same)

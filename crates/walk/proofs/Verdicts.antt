@@ -1,178 +1,165 @@
--- The refusals of a step and of a walk in the order of document 01: the network's, those of the question, then 14, 16, and of a walk 15.
--- The first that holds decides; where none does, the network is accepted and the tables are as long as their rows.
-use Prim.Native.Nat.{ℕ, _*_, _≤_, _<_}
-use mathlib.Core.Path.{_≡_, sym, ap, _∙_}
+-- The refusals of every entry that reads tables, in the order of document 01: the network's, that of the question, then 14, 16, and of a
+-- walk 15. The first that holds decides; where none does, the network is accepted, the question was taken and the tables are as long as
+-- their rows.
+use Prim.Native.Nat.{ℕ, _≤_, _<_}
+use mathlib.Core.Bool.{true, false, not}
+use mathlib.Core.Path.{_≡_, refl, sym, ap, _∙_}
 use mathlib.Core.Logic.{_≢_}
 use mathlib.Core.List.{List}
-use native.Mathlib.Decide.{decLt}
 use native.Mathlib.Omega.{arith}
-use borrow.Author.Tests.{le-leb, lt-leb, eq-eqb, ne-eqb}
+use borrow.Author.Tests.{le-leb, lt-leb, leb-false, eq-eqb, ne-eqb}
 use lib.ListN.{length}
 use lib.Dec.{leb}
-use Rattle.net.specs.Refusals.{accepted, tableLength, traceLength}
+use Rattle.net.specs.Refusals.{accepted, tableLength, tableEntry, traceLength}
+use Rattle.net.specs.Rows.{Rows, networkOf}
 use Rattle.net.specs.Check.{checkNetwork, verdict, refusedIf, Accepted}
 use Rattle.net.specs.declared.check.Verdict.{Verdict}
-use Rattle.net.specs.declared.interface.Failure.{Failure}
-use Rattle.net.proofs.Accepted.{check-accepts}
-use Rattle.net.proofs.Verdicts.{or-else-first, or-else-second, is-refused, not-refused}
-use Rattle.walk.specs.Lent.{tablesVerdict}
-use Rattle.walk.specs.Step.{askedNumber, stepVerdict, stepOf, stepAnswer}
-use Rattle.walk.specs.Walk.{endsNumber, walkVerdict, walkedBy, walkAnswer, traceAfter}
-use Rattle.walk.specs.Moves.{Neighbours}
+use Rattle.net.proofs.Accepted.{check-accepts, accepts-check}
+use Rattle.net.proofs.Verdicts.{or-else-first, or-else-second, first-accepted, second-accepted, is-refused, not-refused, passed-test}
+use Rattle.net.proofs.Overwrite.{over-start}
+use Rattle.tables.specs.Lent.{LentTables, tablesShort, LongEnough}
+use Rattle.tables.proofs.Lengths.{tables-long, long-tables}
+use Rattle.walk.specs.Lent.{tablesPass, tablesVerdict, lentVerdict}
+use Rattle.walk.specs.Step.{stepNumber, stepOf, stepAnswer}
+use Rattle.walk.specs.Walk.{walkNumber, walkVerdict, courseOf, walkedBy, walkAnswer, traceAfter}
+use Rattle.walk.specs.inner.Moves.{WentFrom}
+use Rattle.walk.specs.declared.moves.Outcome.{Outcome}
+use Rattle.walk.specs.declared.question.Question.{Question}
 use Rattle.walk.specs.declared.steps.Asked.{Asked}
 use Rattle.walk.specs.declared.steps.Stepped.the-variants.{Refused}
-use Rattle.walk.specs.declared.moves.Walked.{Walked}
-use Rattle.walk.proofs.Lookup.{routing-short, forwarding-short, backwarding-short}
 
--- what is known once the tests have been passed
-pub record Ready (n : ℕ) (low high weight routing forwarding backwarding table : List ℕ) : Type 0 where
-  pub network : Accepted n low high weight
-  pub map : Neighbours low high table
-  pub routes : n * n ≤ length routing
-  pub forwards : 2 * length low * n ≤ length forwarding
-  pub backwards : 2 * length low * n ≤ length backwarding
+abbrev pub number-of : Verdict → ℕ
+number-of v = v .number
 
-module _ (n : ℕ) (low high weight : List ℕ) {network : Verdict} (checked : network ≡ checkNetwork n low high weight)
-    (fine : network .number ≡ accepted) where
-  pub network-accepted : Accepted n low high weight
-  network-accepted = check-accepts n low high weight (sym (ap (λ (v : Verdict). v .number) checked) ∙ fine)
+-- 14, then 16
+module _ (R : Rows) (T : LentTables) where
+  abbrev n : ℕ
+  n = R .nodes
 
-  pub ready : {routing forwarding backwarding table : List ℕ} {tables : Verdict} → Neighbours low high table
-      → tables ≡ tablesVerdict n low high routing forwarding backwarding → tables .number ≡ accepted
-      → Ready n low high weight routing forwarding backwarding table
-  ready {routing} {forwarding} {backwarding} {table} {tables} M judged passed =
-      record { network = A; map = M; routes = routes; forwards = forwards; backwards = backwards }
+  abbrev links : ℕ
+  links = length (R .low)
+
+  pub lengths-refused : tablesShort n links T ≡ true → verdict tableLength ≡ tablesVerdict R T
+  unfolding tablesVerdict
+  lengths-refused short = sym (or-else-first _ _ refusal ∙ is-refused tableLength short)
     where
-      A : Accepted n low high weight
-      A = network-accepted
+      refusal : refusedIf (tablesShort n links T) tableLength .number ≡ accepted → ⊥
+      refusal e = let z : tableLength ≡ accepted = sym (ap number-of (is-refused tableLength short)) ∙ e in omega arith
 
-      never-short : tablesVerdict n low high routing forwarding backwarding ≡ verdict tableLength → ⊥
-      never-short e = let z : tableLength ≡ accepted = cc in omega arith
+  module _ (long : tablesShort n links T ≡ false) where
+    by-entries : tablesVerdict R T ≡ refusedIf (not (tablesPass R T)) tableEntry
+    unfolding tablesVerdict
+    by-entries = or-else-second _ _ (ap number-of (not-refused tableLength long))
 
-      routes : n * n ≤ length routing
-      routes =
-          elim (decLt (length routing) (n * n)) [
-            | yes h ↦ absurd (never-short (routing-short n low high weight table A M routing forwarding backwarding h))
-            | no h ↦ omega arith
-          ]
+    pub entries-refused : tablesPass R T ≡ false → verdict tableEntry ≡ tablesVerdict R T
+    entries-refused e = sym (by-entries ∙ is-refused tableEntry (rw e))
 
-      forwards : 2 * length low * n ≤ length forwarding
-      forwards =
-          elim (decLt (length forwarding) (2 * length low * n)) [
-            | yes h ↦ absurd (never-short (forwarding-short n low high weight table A M routing forwarding backwarding routes h))
-            | no h ↦ omega arith
-          ]
+    pub tables-taken : tablesPass R T ≡ true → verdict accepted ≡ tablesVerdict R T
+    tables-taken e = sym (by-entries ∙ not-refused tableEntry (rw e))
 
-      backwards : 2 * length low * n ≤ length backwarding
-      backwards =
-          elim (decLt (length backwarding) (2 * length low * n)) [
-            | yes h ↦ absurd (never-short (backwarding-short n low high weight table A M routing forwarding backwarding routes forwards h))
-            | no h ↦ omega arith
-          ]
+  tables-fine : tablesVerdict R T .number ≡ accepted → LongEnough n links T
+  unfolding tablesVerdict
+  tables-fine e = tables-long (passed-test _ tableLength (λ z. omega arith) (first-accepted _ _ e))
+
+  -- the network, the question, the tables
+  module _ (question : ℕ) where
+    module _ {network : Verdict} (checked : network ≡ checkNetwork R) where
+      pub network-refused : network .number ≢ accepted → network ≡ lentVerdict R T question
+      unfolding lentVerdict
+      network-refused h = sym (rw (← checked) (or-else-first network _ h))
+
+      module _ (fine : network .number ≡ accepted) where
+        pub question-refused : question ≢ accepted → verdict question ≡ lentVerdict R T question
+        unfolding lentVerdict
+        question-refused h = sym (rw (← checked) (or-else-second network _ fine ∙ or-else-first (verdict question) _ h))
+
+        pub tables-decide : question ≡ accepted → tablesVerdict R T ≡ lentVerdict R T question
+        unfolding lentVerdict
+        tables-decide e = sym (rw (← checked) (or-else-second network _ fine ∙ or-else-second (verdict question) _ e))
+
+    -- what is known where nothing is refused
+    module _ {v : Verdict} (judged : v ≡ lentVerdict R T question) (fine : v .number ≡ accepted) where
+      whole : lentVerdict R T question .number ≡ accepted
+      whole = sym (ap number-of judged) ∙ fine
+
+      pub lent-network : Accepted R
+      unfolding lentVerdict
+      lent-network = check-accepts R (first-accepted _ _ whole)
+
+      pub question-taken : question ≡ accepted
+      unfolding lentVerdict
+      question-taken = first-accepted (verdict question) _ (second-accepted (checkNetwork R) _ whole)
+
+      pub lent-long : LongEnough n links T
+      unfolding lentVerdict
+      lent-long = tables-fine (second-accepted (verdict question) _ (second-accepted (checkNetwork R) _ whole))
+
+    -- and the other way round
+    pub lent-accepted : Accepted R → question ≡ accepted → LongEnough n links T → tablesPass R T ≡ true
+        → lentVerdict R T question .number ≡ accepted
+    unfolding lentVerdict
+    lent-accepted A e long pass =
+        ap number-of (or-else-second (checkNetwork R) _ (ap number-of (accepts-check R A)))
+        ∙ ap number-of (or-else-second (verdict question) _ e)
+        ∙ ap number-of (sym (tables-taken (long-tables long) pass))
 
 -- a step's answer
-module _ (n : ℕ) (low high weight routing forwarding backwarding : List ℕ) (asked : Asked) (d : ℕ) (failure : Failure) where
-  step-refused : (v : Verdict) → stepVerdict n low high weight routing forwarding backwarding asked d failure ≡ v → v .number ≢ accepted
-      → Refused (v .number) (v .place) ≡ stepAnswer n low high weight routing forwarding backwarding asked d failure
+module _ (R : Rows) (T : LentTables) (asked : Asked) (question : Question) {v : Verdict}
+    (judged : v ≡ lentVerdict R T (stepNumber (R .nodes) (length (R .low)) asked question)) where
+  pub step-refused : v .number ≢ accepted → Refused (v .number) (v .place) ≡ stepAnswer R T asked question
   unfolding stepAnswer
-  step-refused v e h = rw e (simp (ne-eqb _ _ h))
+  step-refused h = rw (← judged, ne-eqb (v .number) accepted h)
 
-  module _ {network : Verdict} (checked : network ≡ checkNetwork n low high weight) where
-    pub step-network-refused : network .number ≢ accepted
-        → Refused (network .number) (network .place) ≡ stepAnswer n low high weight routing forwarding backwarding asked d failure
-    unfolding stepVerdict
-    step-network-refused h = step-refused network (rw (← checked, or-else-first network _ h)) h
+  pub step-taken : v .number ≡ accepted → stepOf R T asked question ≡ stepAnswer R T asked question
+  unfolding stepAnswer
+  step-taken h = rw (← judged, eq-eqb (v .number) accepted h)
 
-    module _ (fine : network .number ≡ accepted) {question : ℕ} (questioned : question ≡ askedNumber n (length low) asked d failure) where
-      pub step-question-refused : question ≢ accepted
-          → Refused question 0 ≡ stepAnswer n low high weight routing forwarding backwarding asked d failure
-      unfolding stepVerdict
-      step-question-refused h =
-          step-refused (verdict question)
-          (rw (← checked, or-else-second network _ fine, ← questioned, or-else-first (verdict question) _ h)) h
-
-      module _ (taken : question ≡ accepted) {tables : Verdict} (judged : tables ≡ tablesVerdict n low high routing forwarding backwarding) where
-        step-by-tables : stepVerdict n low high weight routing forwarding backwarding asked d failure ≡ tables
-        unfolding stepVerdict
-        step-by-tables =
-            rw (← checked, or-else-second network _ fine, ← questioned, or-else-second (verdict question) _ taken, ← judged)
-
-        pub step-tables-refused : tables .number ≢ accepted
-            → Refused (tables .number) (tables .place) ≡ stepAnswer n low high weight routing forwarding backwarding asked d failure
-        step-tables-refused h = step-refused tables step-by-tables h
-
-        pub step-taken : tables .number ≡ accepted
-            → stepOf n low high routing forwarding backwarding asked d failure
-            ≡ stepAnswer n low high weight routing forwarding backwarding asked d failure
-        unfolding stepAnswer
-        step-taken h = rw step-by-tables (simp (eq-eqb _ _ h))
-
--- a walk's: answer and trace
-walked-is : (r : Walked) {number place ending hops : ℕ}
-    → (r .number ≡ number) × (r .place ≡ place) × (r .ending ≡ ending) × (r .hops ≡ hops)
-    → r ≡ record { number = number; place = place; ending = ending; hops = hops }
-walked-is r is = rw (← is .0, ← is .1, ← is .2, ← is .3)
-
-module _ (n : ℕ) (low high weight routing forwarding backwarding : List ℕ) (s d : ℕ) (failure : Failure) (limit : ℕ) (trace : List ℕ) where
-  -- what a refused walk answers, and that it leaves the trace
-  abbrev Unmade : Walked → Type 0
-  Unmade r =
-      (r ≡ walkAnswer n low high weight routing forwarding backwarding s d failure limit trace)
-      × (trace ≡ traceAfter n low high weight routing forwarding backwarding s d failure limit trace)
-
-  abbrev Answers : Walked → ℕ → ℕ → Type 0
-  Answers r number place = (r .number ≡ number) × (r .place ≡ place) × (r .ending ≡ 0) × (r .hops ≡ 0)
-
-  walk-refused : (v : Verdict) {r : Walked} → walkVerdict n low high weight routing forwarding backwarding s d failure limit trace ≡ v
-      → v .number ≢ accepted → Answers r (v .number) (v .place) → Unmade r
-  unfolding walkAnswer walkedBy traceAfter
-  walk-refused v {r} e h is = (rw e (simp (ne-eqb _ _ h) (walked-is r is)), rw e (simp (ne-eqb _ _ h)))
-
-  module _ {network : Verdict} (checked : network ≡ checkNetwork n low high weight) where
-    pub walk-network-refused : {r : Walked} → network .number ≢ accepted → Answers r (network .number) (network .place) → Unmade r
+-- a walk's: its verdict, its answer and the trace
+module _ (R : Rows) (T : LentTables) (s : ℕ) (question : Question) (limit : ℕ) (trace : List ℕ) where
+  module _ {lent : Verdict} (judged : lent ≡ lentVerdict R T (walkNumber (R .nodes) (length (R .low)) s question)) where
+    pub walk-lent-refused : lent .number ≢ accepted → lent ≡ walkVerdict R T s question limit trace
     unfolding walkVerdict
-    walk-network-refused h is = walk-refused network (rw (← checked, or-else-first network _ h)) h is
+    walk-lent-refused h = sym (rw (← judged) (or-else-first lent _ h))
 
-    module _ (fine : network .number ≡ accepted) {question : ℕ} (questioned : question ≡ endsNumber n (length low) s d failure) where
-      pub walk-question-refused : {r : Walked} → question ≢ accepted → Answers r question 0 → Unmade r
+    module _ (fine : lent .number ≡ accepted) where
+      by-trace : walkVerdict R T s question limit trace ≡ refusedIf (leb (length trace) limit) traceLength
       unfolding walkVerdict
-      walk-question-refused h is =
-          walk-refused (verdict question)
-          (rw (← checked, or-else-second network _ fine, ← questioned, or-else-first (verdict question) _ h)) h is
+      by-trace = rw (← judged) (or-else-second lent _ fine)
 
-      module _ (taken : question ≡ accepted) {tables : Verdict} (judged : tables ≡ tablesVerdict n low high routing forwarding backwarding) where
-        pub walk-tables-refused : {r : Walked} → tables .number ≢ accepted → Answers r (tables .number) (tables .place) → Unmade r
-        unfolding walkVerdict
-        walk-tables-refused h is =
-            walk-refused tables
-            (rw (
-              ← checked,
-              or-else-second network _ fine,
-              ← questioned,
-              or-else-second (verdict question) _ taken,
-              ← judged,
-              or-else-first tables _ h,
-            ))
-            h is
+      pub walk-trace-refused : length trace ≤ limit → verdict traceLength ≡ walkVerdict R T s question limit trace
+      walk-trace-refused h = sym (by-trace ∙ is-refused traceLength (le-leb _ _ h))
 
-        module _ (passed : tables .number ≡ accepted) where
-          walk-by-trace : walkVerdict n low high weight routing forwarding backwarding s d failure limit trace
-              ≡ refusedIf (leb (length trace) limit) traceLength
-          unfolding walkVerdict
-          walk-by-trace =
-              rw (
-                ← checked,
-                or-else-second network _ fine,
-                ← questioned,
-                or-else-second (verdict question) _ taken,
-                ← judged,
-                or-else-second tables _ passed,
-              )
+      pub walk-trace-taken : limit < length trace → verdict accepted ≡ walkVerdict R T s question limit trace
+      walk-trace-taken h = sym (by-trace ∙ not-refused traceLength (lt-leb _ _ h))
 
-          pub walk-trace-refused : {r : Walked} → length trace ≤ limit → Answers r traceLength 0 → Unmade r
-          walk-trace-refused h is =
-              walk-refused (verdict traceLength) (walk-by-trace ∙ is-refused traceLength (le-leb _ _ h)) (λ z. omega arith) is
+  module _ {v : Verdict} (judged : v ≡ walkVerdict R T s question limit trace) where
+    pub walk-refused : v .number ≢ accepted
+        → record { number = v .number; place = v .place; ending = 0; hops = 0 } ≡ walkAnswer R T s question limit trace
+    unfolding walkAnswer walkedBy
+    walk-refused h = rw (← judged, ne-eqb (v .number) accepted h)
 
-          pub walk-taken : limit < length trace
-              → walkVerdict n low high weight routing forwarding backwarding s d failure limit trace .number ≡ accepted
-          walk-taken h = ap (λ (v : Verdict). v .number) (walk-by-trace ∙ not-refused traceLength (lt-leb _ _ h))
+    pub trace-kept : v .number ≢ accepted → trace ≡ traceAfter R T s question limit trace
+    unfolding traceAfter
+    trace-kept h = rw (← judged, ne-eqb (v .number) accepted h)
+
+    module _ (fine : v .number ≡ accepted) where
+      whole-walk : walkVerdict R T s question limit trace .number ≡ accepted
+      whole-walk = sym (ap number-of judged) ∙ fine
+
+      pub walk-lent : lentVerdict R T (walkNumber (R .nodes) (length (R .low)) s question) .number ≡ accepted
+      unfolding walkVerdict
+      walk-lent = first-accepted _ _ whole-walk
+
+      pub walk-room : limit < length trace
+      unfolding walkVerdict
+      walk-room = leb-false (length trace) limit (passed-test _ traceLength (λ z. omega arith) (second-accepted _ _ whole-walk))
+
+      -- the two promises of `walk`, from what it made
+      module _ {r : Outcome} {after : List ℕ} (went : WentFrom (networkOf R) s (courseOf R T s question limit) trace r after) where
+        pub walk-made : record { number = accepted; place = 0; ending = r .ending; hops = r .hops } ≡ walkAnswer R T s question limit trace
+        unfolding walkAnswer walkedBy
+        walk-made = rw (eq-eqb _ accepted whole-walk, went .ending, went .hops)
+
+        pub trace-made : after ≡ traceAfter R T s question limit trace
+        unfolding traceAfter
+        trace-made = rw (eq-eqb _ accepted whole-walk) (went .trace ∙ over-start trace _)

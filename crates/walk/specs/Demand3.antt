@@ -11,12 +11,14 @@ use lib.ListN.{length, drop}
 use Rattle.graph.specs.Network.{Network, link, tail}
 use Rattle.graph.specs.Path.{Chain, Over, Distinct, visits}
 use Rattle.graph.specs.Entries.{onward, RoutingEntry}
+use Rattle.graph.specs.Walk.{delivered, unrouted, dropped}
 use Rattle.graph.specs.Demand3.{Works}
 use Rattle.net.specs.Refusals.{accepted}
-use Rattle.net.specs.declared.interface.Failure.{Failure}
-use Rattle.net.specs.declared.interface.Failure.the-variants.{Nothing as NoFailure, One}
-use Rattle.walk.specs.Step.{fails}
-use Rattle.walk.specs.declared.moves.Walked.{Walked}
+use Rattle.net.specs.Failure.{fails}
+use Rattle.net.specs.declared.failure.Failure.{Failure}
+use Rattle.net.specs.declared.failure.Failure.the-variants.{Nothing as NoFailure, One}
+use Rattle.walk.specs.Walk.{endingNumber}
+use Rattle.walk.specs.declared.walks.Walked.{Walked}
 
 -- "at most one failed link": none, or one of the network's
 abbrev pub AtMostOne : ℕ → Failure → Type 0
@@ -35,13 +37,13 @@ pub record Arrived (N : Network) (s d : ℕ) (crossed : List ℕ) (r : Walked) :
 
 -- "else it ends at the start": ending 1 after no hop, and no chain of links joins the two nodes, failed or not
 pub record AtStart (N : Network) (s d : ℕ) (r : Walked) : Type 0 where
-  pub ending : r .ending ≡ 1
+  pub ending : r .ending ≡ endingNumber unrouted
   pub hops : r .hops ≡ 0
   pub no-chain : (p : List ℕ) → Chain N s p d → ⊥
 
 -- "or at the failed link within n - 2 hops": ending 2 at the tail of an interface of that link, which is the routing entry there
 pub record AtFailedLink (N : Network) (failure : Failure) (s d : ℕ) (crossed : List ℕ) (r : Walked) : Type 0 where
-  pub ending : r .ending ≡ 2
+  pub ending : r .ending ≡ endingNumber dropped
   pub meets : ℕ
   pub failed : fails failure (link meets) ≡ true
   pub routed : RoutingEntry N d (tail N meets) (onward meets)
@@ -57,6 +59,6 @@ pub record Demand3 (N : Network) (failure : Failure) (s d : ℕ) (before : List 
   pub works : Over (Works (fails failure)) crossed
   pub hops : r .hops ≡ length crossed
   pub trace : after ≡ visits N s crossed ++ drop (r .hops + 1) before
-  pub exactly : (r .ending ≡ 0) ↔ Joined N failure s d
-  pub arrived : r .ending ≡ 0 → Arrived N s d crossed r
-  pub refused : r .ending ≢ 0 → AtStart N s d r ⊎ AtFailedLink N failure s d crossed r
+  pub exactly : (r .ending ≡ endingNumber delivered) ↔ Joined N failure s d
+  pub arrived : r .ending ≡ endingNumber delivered → Arrived N s d crossed r
+  pub refused : r .ending ≢ endingNumber delivered → AtStart N s d r ⊎ AtFailedLink N failure s d crossed r

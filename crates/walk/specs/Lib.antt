@@ -1,5 +1,5 @@
 pub mod Lent
 pub mod Step
 pub mod Walk
-pub mod Moves
 pub mod Demand3
+pub mod inner

@@ -1,22 +1,21 @@
 // The walk: two kinds of move in a cycle. The forwarding move meets the failed link and turns to the backwarding move, which hands the
-// packet on to the next node's forwarding move; the remaining hop limit falls at each crossed link.
+// packet on to the next node's forwarding move; the remaining hop limit falls at each crossed link. The moves are lent what they read and
+// no more (a walk is made 64,480 times in a report), and promise their walk for every network and tables that this belongs to.
 ghost use mathlib.Core.Path.{_≡_};
-ghost use Prim.Native.Nat.{_+_, _*_, _-_, _<_, _≤_};
-ghost use lib.ListN.{length, getD};
-ghost use Rattle.net.specs.Limits.{mostNodes};
-ghost use Rattle.walk.specs.Walk.{endsNumber, walkAnswer, traceAfter};
-ghost use Rattle.walk.specs.Moves.{Reaches, trailFrom, trailAround, Went, WentFrom};
+ghost use Prim.Native.Nat.{_+_, _*_};
+ghost use lib.ListN.{length};
+ghost use Rattle.graph.specs.Network.{tail};
+ghost use Rattle.net.specs.Rows.{networkOf};
+ghost use Rattle.walk.specs.Walk.{endingNumber, courseOf};
+ghost use Rattle.walk.specs.inner.Ground.{Ground};
+ghost use Rattle.walk.specs.inner.Moves.{lostEnding, HopLeft, movedOn, courseFrom, courseAround, Standing, Turning, Went};
+ghost use Rattle.walk.specs.inner.Moves.{Setting, WentFrom};
 use crate::lent::Found;
 use crate::lent::look_up;
-use crate::lent::neighbours;
-use crate::lent::tables_verdict;
-use crate::steps::bad_failure;
-use crate::steps::fails;
-use net::Failure;
+use crate::question::Question;
+use net::Interface;
 use net::Node;
-use net::Verdict;
-use net::check_network;
-use net::refusal;
+use net::blocked;
 
 // Document 01's endings.
 pub const DELIVERED: u8 = 0;
@@ -29,138 +28,136 @@ pub const EXHAUSTED: u8 = 3;
 
 pub const ASTRAY: u8 = 4;
 
-// What the entry answers; after a refusal ending and hop count are 0.
-pub struct Walked {
-    pub number: u8,
-    pub place: usize,
-    pub ending: u8,
+// A packet on its way: where it stands, the entry that it reads there, the hops left and made, and whether it arrived over a link.
+pub struct Packet {
+    pub node: Node,
+    pub entry: u8,
+    pub left: usize,
     pub hops: usize,
+    pub arrived: bool,
 }
 
 // How a walk ended and how many links it crossed.
-pub struct Course {
+pub struct Outcome {
     pub ending: u8,
     pub hops: usize,
 }
 
-// At node i with the entry that is read there; the ending is `lost` where that entry leads nowhere.
+// The ending where there is nothing to follow.
+fn lost_ending(arrived: bool) -> u8
+    ensures { λ r. ⌜ r ≡ endingNumber (lostEnding arrived) ⌝ }
+{
+    if arrived {
+        return ASTRAY;
+    }
+    UNROUTED
+}
+
+// The packet after one hop more.
+fn moved(packet: Packet, node: Node, entry: u8) -> Packet
+    requires { ⌜ HopLeft packet ⌝ }
+    ensures { λ r. ⌜ r ≡ movedOn packet node entry ⌝ }
+{
+    Packet {
+        node: node,
+        entry: entry,
+        left: packet.left - 1,
+        hops: packet.hops + 1,
+        arrived: true,
+    }
+}
+
 fn forwarding_move(
     map: &[u8],
     n: usize,
     forwarding: &[u8],
     backwarding: &[u8],
-    d: usize,
-    failure: Failure,
-    i: usize,
-    byte: u8,
-    left: usize,
-    hops: usize,
-    lost: u8,
+    question: Question,
+    packet: Packet,
     trace: &mut [u8],
-) -> Course
-    requires { ⌜ (i < mostNodes) × (d < n) × (n ≤ mostNodes) × (length (now map) ≡ mostNodes * mostNodes) ⌝ }
-    requires { ⌜ Reaches (now map) n (length (now forwarding)) × Reaches (now map) n (length (now backwarding)) ⌝ }
-    requires { ⌜ hops + left < length (now trace) ⌝ }
-    ensures { λ r. ⌜ Went (trailFrom left (now (map .entry)) n (now (forwarding .entry)) (now (backwarding .entry)) d failure i byte lost)
-        hops (now (trace .entry)) r (now (trace .exit)) ⌝ }
+) -> Outcome
+    requires { ⌜ Standing n (now map) (now forwarding) (now backwarding) question packet (now trace) ⌝ }
+    ensures { λ r. ⌜ ((on : Ground n (now (map .entry)) (now (forwarding .entry)) (now (backwarding .entry)))
+        → Went (networkOf (on .rows)) (courseFrom (on .rows) (on .tables) question packet)
+        (packet .hops) (now (trace .entry)) r (now (trace .exit))) ⌝ }
 {
-    if i == d {
-        return Course {
+    if packet.node.0 == question.destination.0 {
+        return Outcome {
             ending: DELIVERED,
-            hops: hops,
+            hops: packet.hops,
         };
     }
-    if left == 0 {
-        return Course {
+    if packet.left == 0 {
+        return Outcome {
             ending: EXHAUSTED,
-            hops: hops,
+            hops: packet.hops,
         };
     }
-    let Found::Next(v, f) = look_up(map, i, byte) else {
-        return Course {
-            ending: lost,
-            hops: hops,
+    let Found::Next(node, f) = look_up(map, packet.node, packet.entry) else {
+        return Outcome {
+            ending: lost_ending(packet.arrived),
+            hops: packet.hops,
         };
     };
-    if fails(failure, f / 2) {
-        return backwarding_move(
-            map,
-            n,
-            forwarding,
-            backwarding,
-            d,
-            failure,
-            i,
-            f,
-            left,
-            hops,
-            trace,
-        );
+    let failure = question.failure;
+    if blocked(failure, f) {
+        return backwarding_move(map, n, forwarding, backwarding, question, packet, f, trace);
     }
-    let next = hops + 1;
-    trace[next] = v as u8;
+    let next = packet.hops + 1;
+    trace[next] = node.0 as u8;
+    let entry = forwarding[f.0 * n + question.destination.0];
     forwarding_move(
         map,
         n,
         forwarding,
         backwarding,
-        d,
-        failure,
-        v,
-        forwarding[f * n + d],
-        left - 1,
-        next,
-        ASTRAY,
+        question,
+        moved(packet, node, entry),
         trace,
     )
 }
 
-// At node i, whose entry leads over the failed link by interface f.
+// At a node whose entry leads over the failed link by interface f.
 fn backwarding_move(
     map: &[u8],
     n: usize,
     forwarding: &[u8],
     backwarding: &[u8],
-    d: usize,
-    failure: Failure,
-    i: usize,
-    f: usize,
-    left: usize,
-    hops: usize,
+    question: Question,
+    packet: Packet,
+    f: Interface,
     trace: &mut [u8],
-) -> Course
-    requires { ⌜ (i < mostNodes) × (d < n) × (n ≤ mostNodes) × (length (now map) ≡ mostNodes * mostNodes) ⌝ }
-    requires { ⌜ Reaches (now map) n (length (now forwarding)) × Reaches (now map) n (length (now backwarding)) ⌝ }
-    requires { ⌜ (0 < left) × (hops + left < length (now trace)) × (f * n + d < length (now backwarding)) ⌝ }
-    ensures { λ r. ⌜ Went (trailAround (left - 1) (now (map .entry)) n (now (forwarding .entry)) (now (backwarding .entry)) d failure i f)
-        hops (now (trace .entry)) r (now (trace .exit)) ⌝ }
+) -> Outcome
+    requires { ⌜ Turning n (now map) (now forwarding) (now backwarding) question packet (f .0) (now trace) ⌝ }
+    ensures { λ r. ⌜ ((on : Ground n (now (map .entry)) (now (forwarding .entry)) (now (backwarding .entry)))
+        → tail (networkOf (on .rows)) (f .0) ≡ packet .node .0
+        → Went (networkOf (on .rows)) (courseAround (on .rows) (on .tables) question packet (f .0))
+        (packet .hops) (now (trace .entry)) r (now (trace .exit))) ⌝ }
 {
-    let Found::Next(v, g) = look_up(map, i, backwarding[f * n + d]) else {
-        return Course {
+    let back = backwarding[f.0 * n + question.destination.0];
+    let Found::Next(node, g) = look_up(map, packet.node, back) else {
+        return Outcome {
             ending: DROPPED,
-            hops: hops,
+            hops: packet.hops,
         };
     };
-    if fails(failure, g / 2) {
-        return Course {
+    let failure = question.failure;
+    if blocked(failure, g) {
+        return Outcome {
             ending: DROPPED,
-            hops: hops,
+            hops: packet.hops,
         };
     }
-    let next = hops + 1;
-    trace[next] = v as u8;
+    let next = packet.hops + 1;
+    trace[next] = node.0 as u8;
+    let entry = forwarding[g.0 * n + question.destination.0];
     forwarding_move(
         map,
         n,
         forwarding,
         backwarding,
-        d,
-        failure,
-        v,
-        forwarding[g * n + d],
-        left - 1,
-        next,
-        ASTRAY,
+        question,
+        moved(packet, node, entry),
         trace,
     )
 }
@@ -169,69 +166,6 @@ fn backwarding_move(
 pub fn walk_from(
     map: &[u8],
     n: usize,
-    routing: &[u8],
-    forwarding: &[u8],
-    backwarding: &[u8],
-    s: usize,
-    d: usize,
-    failure: Failure,
-    limit: usize,
-    trace: &mut [u8],
-) -> Course
-    requires { ⌜ (s < n) × (d < n) × (n ≤ mostNodes) × (length (now map) ≡ mostNodes * mostNodes) ⌝ }
-    requires { ⌜ Reaches (now map) n (length (now forwarding)) × Reaches (now map) n (length (now backwarding)) ⌝ }
-    requires { ⌜ (n * n ≤ length (now routing)) × (limit < length (now trace)) ⌝ }
-    ensures { λ r. ⌜ WentFrom s
-        (trailFrom limit (now (map .entry)) n (now (forwarding .entry)) (now (backwarding .entry)) d failure s
-        (getD (now (routing .entry)) (s * n + d) 0) 1)
-        (now (trace .entry)) r (now (trace .exit)) ⌝ }
-{
-    trace[0] = s as u8;
-    forwarding_move(
-        map,
-        n,
-        forwarding,
-        backwarding,
-        d,
-        failure,
-        s,
-        routing[s * n + d],
-        limit,
-        0,
-        UNROUTED,
-        trace,
-    )
-}
-
-// 12, 11 (source, then destination) of an accepted network.
-fn ends_verdict(n: usize, links: usize, s: usize, d: usize, failure: Failure) -> u8
-    ensures { λ r. ⌜ r ≡ endsNumber n links s d failure ⌝ }
-{
-    if bad_failure(links, failure) {
-        return refusal::FAILED_LINK;
-    }
-    if n <= s {
-        return refusal::NODE_NUMBER;
-    }
-    if n <= d {
-        return refusal::NODE_NUMBER;
-    }
-    refusal::NONE
-}
-
-fn refused(number: u8, place: usize) -> Walked
-    ensures { λ r. ⌜ (r .number ≡ number) × (r .place ≡ place) × (r .ending ≡ 0) × (r .hops ≡ 0) ⌝ }
-{
-    Walked {
-        number: number,
-        place: place,
-        ending: 0,
-        hops: 0,
-    }
-}
-
-pub fn walk(
-    n: usize,
     low: &[u8],
     high: &[u8],
     weight: &[u32],
@@ -239,52 +173,29 @@ pub fn walk(
     forwarding: &[u8],
     backwarding: &[u8],
     source: Node,
-    destination: Node,
-    failure: Failure,
-    limit: u8,
+    question: Question,
+    limit: usize,
     trace: &mut [u8],
-) -> Walked
-    ensures { λ r. ⌜ r ≡ walkAnswer n (now (low .entry)) (now (high .entry)) (now (weight .entry))
-        (now (routing .entry)) (now (forwarding .entry)) (now (backwarding .entry))
-        (source .0) (destination .0) failure limit (now (trace .entry)) ⌝ }
-    ensures { λ r. ⌜ now (trace .exit) ≡ traceAfter n (now (low .entry)) (now (high .entry)) (now (weight .entry))
-        (now (routing .entry)) (now (forwarding .entry)) (now (backwarding .entry))
-        (source .0) (destination .0) failure limit (now (trace .entry)) ⌝ }
+) -> Outcome
+    requires { ⌜ Setting (record { nodes = n; low = now low; high = now high; weight = now weight })
+        (record { routing = now routing; forwarding = now forwarding; backwarding = now backwarding })
+        (now map) (source .0) question limit (now trace) ⌝ }
+    ensures { λ r. ⌜ WentFrom
+        (networkOf (record { nodes = n; low = now (low .entry); high = now (high .entry); weight = now (weight .entry) }))
+        (source .0)
+        (courseOf (record { nodes = n; low = now (low .entry); high = now (high .entry); weight = now (weight .entry) })
+        (record { routing = now (routing .entry); forwarding = now (forwarding .entry); backwarding = now (backwarding .entry) })
+        (source .0) question limit)
+        (now (trace .entry)) r (now (trace .exit)) ⌝ }
 {
     let s = source.0;
-    let d = destination.0;
-    let verdict = check_network(n, low, high, weight);
-    if verdict.number != refusal::NONE {
-        return refused(verdict.number, verdict.place);
-    }
-    let number = ends_verdict(n, low.len(), s, d, failure);
-    if number != refusal::NONE {
-        return refused(number, 0);
-    }
-    let map = neighbours(n, low, high, weight);
-    let lent = tables_verdict(&map, n, low, high, weight, routing, forwarding, backwarding);
-    if lent.number != refusal::NONE {
-        return refused(lent.number, lent.place);
-    }
-    if trace.len() <= limit as usize {
-        return refused(refusal::TRACE_LENGTH, 0);
-    }
-    let course = walk_from(
-        &map,
-        n,
-        routing,
-        forwarding,
-        backwarding,
-        s,
-        d,
-        failure,
-        limit as usize,
-        trace,
-    );
-    Walked {
-        number: refusal::NONE,
-        place: 0,
-        ending: course.ending,
-        hops: course.hops,
-    }
+    trace[0] = s as u8;
+    let packet = Packet {
+        node: source,
+        entry: routing[s * n + question.destination.0],
+        left: limit,
+        hops: 0,
+        arrived: false,
+    };
+    forwarding_move(map, n, forwarding, backwarding, question, packet, trace)
 }

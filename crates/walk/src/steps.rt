@@ -1,20 +1,23 @@
 // One packet step, asked at a start node or on arrival over an interface.
 ghost use mathlib.Core.Path.{_≡_};
-ghost use Prim.Native.Nat.{_+_, _*_, _<_, _≤_};
-ghost use lib.ListN.{length, getD};
-ghost use Rattle.net.specs.Limits.{mostNodes};
-ghost use Rattle.walk.specs.Step.{fails as failsBy, badFailure, badInterface, badStart, askedNumber, stepAnswer};
-ghost use Rattle.walk.specs.Moves.{foundIn, Reaches, stepAround, stepIn};
+ghost use Rattle.graph.specs.Network.{tail};
+ghost use Rattle.net.specs.Rows.{networkOf};
+ghost use Rattle.walk.specs.Lent.{hopAt};
+ghost use Rattle.walk.specs.Step.{badInterface, badStart, stepNumber, stepAt, stepAnswer};
+ghost use Rattle.walk.specs.inner.Ground.{Ground};
+ghost use Rattle.walk.specs.inner.Steps.{stepAround, Placed, Rerouted};
 use crate::lent::Found;
+use crate::lent::lent_verdict;
 use crate::lent::look_up;
 use crate::lent::neighbours;
-use crate::lent::tables_verdict;
+use crate::question::Question;
 use net::Failure;
 use net::Interface;
 use net::Node;
-use net::Verdict;
-use net::check_network;
+use net::blocked;
+use net::failure_number;
 use net::head_of;
+use net::link_of;
 use net::refusal;
 
 pub enum Asked {
@@ -31,33 +34,13 @@ pub enum Stepped {
     Next(Node, Interface),
 }
 
-// Whether the failure has the link.
-pub fn fails(failure: Failure, link: usize) -> bool
-    ensures { λ r. ⌜ r ≡ failsBy failure link ⌝ }
-{
-    match failure {
-        Failure::Nothing => false,
-        Failure::One(l) => link == l.0,
-    }
-}
-
-// 12, of an accepted network.
-pub fn bad_failure(links: usize, failure: Failure) -> bool
-    ensures { λ r. ⌜ r ≡ badFailure links failure ⌝ }
-{
-    match failure {
-        Failure::Nothing => false,
-        Failure::One(l) => links <= l.0,
-    }
-}
-
 // 13. Twice the link count is not computed, so that nothing is asked of it.
 fn bad_interface(links: usize, asked: Asked) -> bool
     ensures { λ r. ⌜ r ≡ badInterface links asked ⌝ }
 {
     match asked {
         Asked::Start(_) => false,
-        Asked::Arrival(h) => links <= h.0 / 2,
+        Asked::Arrival(h) => links <= link_of(h).0,
     }
 }
 
@@ -71,71 +54,77 @@ fn bad_start(n: usize, asked: Asked) -> bool
     }
 }
 
-// 13, 12, 11 (the start node, then the destination) of an accepted network.
-fn asked_verdict(n: usize, links: usize, asked: Asked, d: usize, failure: Failure) -> u8
-    ensures { λ r. ⌜ r ≡ askedNumber n links asked d failure ⌝ }
+// 13, 12, 11 (the start node, then the destination): the first that holds, or 0.
+fn step_number(n: usize, links: usize, asked: Asked, question: Question) -> u8
+    ensures { λ r. ⌜ r ≡ stepNumber n links asked question ⌝ }
 {
     if bad_interface(links, asked) {
         return refusal::INTERFACE_NUMBER;
     }
-    if bad_failure(links, failure) {
-        return refusal::FAILED_LINK;
+    let failure = question.failure;
+    let failed = failure_number(links, failure);
+    if failed != refusal::NONE {
+        return failed;
     }
     if bad_start(n, asked) {
         return refusal::NODE_NUMBER;
     }
-    if n <= d {
+    if n <= question.destination.0 {
         return refusal::NODE_NUMBER;
     }
     refusal::NONE
 }
 
-// Past the failed link: the backwarding entry of interface f, which leaves node i.
+// Past the failed link: the backwarding entry of interface f, which leaves the node.
 fn step_around(
     map: &[u8],
     n: usize,
+    forwarding: &[u8],
     backwarding: &[u8],
-    d: usize,
-    failure: Failure,
-    i: usize,
-    f: usize,
+    question: Question,
+    node: Node,
+    f: Interface,
 ) -> Stepped
-    requires { ⌜ (i < mostNodes) × (length (now map) ≡ mostNodes * mostNodes) × (f * n + d < length (now backwarding)) ⌝ }
-    ensures { λ r. ⌜ r ≡ stepAround failure (foundIn (now (map .entry)) i (getD (now (backwarding .entry)) (f * n + d) 0)) ⌝ }
+    requires { ⌜ Rerouted n (now map) (now forwarding) (now backwarding) question (node .0) (f .0) ⌝ }
+    ensures { λ r. ⌜ ((on : Ground n (now (map .entry)) (now (forwarding .entry)) (now (backwarding .entry)))
+        → tail (networkOf (on .rows)) (f .0) ≡ node .0 → r ≡ stepAround (on .rows) (on .tables) question (f .0)) ⌝ }
 {
-    let Found::Next(v, g) = look_up(map, i, backwarding[f * n + d]) else {
+    let back = backwarding[f.0 * n + question.destination.0];
+    let Found::Next(next, g) = look_up(map, node, back) else {
         return Stepped::Dropped;
     };
-    if fails(failure, g / 2) {
+    let failure = question.failure;
+    if blocked(failure, g) {
         return Stepped::Dropped;
     }
-    Stepped::Next(Node(v), Interface(g))
+    Stepped::Next(next, g)
 }
 
-// The step at node i with the entry that is read there.
+// The step at a node with the entry that is read there.
 fn step_at(
     map: &[u8],
     n: usize,
+    forwarding: &[u8],
     backwarding: &[u8],
-    d: usize,
-    failure: Failure,
-    i: usize,
-    byte: u8,
+    question: Question,
+    node: Node,
+    entry: u8,
 ) -> Stepped
-    requires { ⌜ (i < mostNodes) × (d < n) × (n ≤ mostNodes) × (length (now map) ≡ mostNodes * mostNodes) ⌝ }
-    requires { ⌜ Reaches (now map) n (length (now backwarding)) ⌝ }
-    ensures { λ r. ⌜ r ≡ stepIn (now (map .entry)) n (now (backwarding .entry)) d failure i byte ⌝ }
+    requires { ⌜ Placed n (now map) (now forwarding) (now backwarding) question (node .0) ⌝ }
+    ensures { λ r. ⌜ ((on : Ground n (now (map .entry)) (now (forwarding .entry)) (now (backwarding .entry)))
+        → r ≡ stepAt (on .rows) (on .tables) question (node .0) (hopAt (on .rows) (node .0) entry)) ⌝ }
 {
-    if i == d {
+    if node.0 == question.destination.0 {
         return Stepped::Delivered;
     }
-    let Found::Next(v, f) = look_up(map, i, byte) else {
+    let Found::Next(next, f) = look_up(map, node, entry) else {
         return Stepped::NothingToFollow;
     };
-    if fails(failure, f / 2) {
-        return step_around(map, n, backwarding, d, failure, i, f);
+    let failure = question.failure;
+    if blocked(failure, f) {
+        return step_around(map, n, forwarding, backwarding, question, node, f);
     }
-    Stepped::Next(Node(v), Interface(f))
+    Stepped::Next(next, f)
 }
 
 pub fn step(
@@ -150,32 +139,48 @@ pub fn step(
     destination: Node,
     failure: Failure,
 ) -> Stepped
-    ensures { λ r. ⌜ r ≡ stepAnswer n (now (low .entry)) (now (high .entry)) (now (weight .entry))
-        (now (routing .entry)) (now (forwarding .entry)) (now (backwarding .entry)) asked (destination .0) failure ⌝ }
+    ensures { λ r. ⌜ r ≡ stepAnswer (record { nodes = n; low = now (low .entry); high = now (high .entry); weight = now (weight .entry) })
+        (record { routing = now (routing .entry); forwarding = now (forwarding .entry); backwarding = now (backwarding .entry) })
+        asked (record { destination = destination; failure = failure }) ⌝ }
 {
+    let question = Question {
+        destination: destination,
+        failure: failure,
+    };
     let d = destination.0;
-    let verdict = check_network(n, low, high, weight);
+    let number = step_number(n, low.len(), asked, question);
+    let verdict = lent_verdict(
+        n,
+        low,
+        high,
+        weight,
+        number,
+        routing,
+        forwarding,
+        backwarding,
+    );
     if verdict.number != refusal::NONE {
         return Stepped::Refused(verdict.number, verdict.place);
     }
-    let number = asked_verdict(n, low.len(), asked, d, failure);
-    if number != refusal::NONE {
-        return Stepped::Refused(number, 0);
-    }
     let map = neighbours(n, low, high, weight);
-    let lent = tables_verdict(&map, n, low, high, weight, routing, forwarding, backwarding);
-    if lent.number != refusal::NONE {
-        return Stepped::Refused(lent.number, lent.place);
-    }
     match asked {
-        Asked::Start(s) => {
-            let i = s.0;
-            step_at(&map, n, backwarding, d, failure, i, routing[i * n + d])
-        }
-        Asked::Arrival(h) => {
-            let f = h.0;
-            let i = head_of(Interface(f), low, high).0;
-            step_at(&map, n, backwarding, d, failure, i, forwarding[f * n + d])
-        }
+        Asked::Start(i) => step_at(
+            &map,
+            n,
+            forwarding,
+            backwarding,
+            question,
+            i,
+            routing[i.0 * n + d],
+        ),
+        Asked::Arrival(h) => step_at(
+            &map,
+            n,
+            forwarding,
+            backwarding,
+            question,
+            head_of(h, low, high),
+            forwarding[h.0 * n + d],
+        ),
     }
 }

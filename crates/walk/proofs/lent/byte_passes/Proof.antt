@@ -1,18 +1,25 @@
 -- The entry for the node itself, the entry that names no node, and else what the look-up answers.
-use mathlib.Core.Path.{sym, _∙_}
 use borrow.Author.Needs.{needs}
-use Rattle.walk.proofs.Answers.{own-passes, nowhere-passes, neighbour-passes, absent-fails, next-passes}
+use Rattle.walk.specs.inner.Neighbours.{LookUp}
+use Rattle.walk.proofs.Hops.{own-passes, nowhere-passes, absent-fails, next-passes}
 use Rattle.walk.proofs.lent.byte_passes.Statement.{statement}
 use Rattle.walk.proofs.lent.byte_passes.Tie as tie
 
+abbrev start : tie.Else2 → tie.Start
+start c = c .before .before .before .before .before .before .before
+
+-- the map is the look-up of this network
+abbrev asked : (c : tie.Else2) → LookUp (start c .args .map .now) (start c .args .node .0)
+asked c = record { rows = _; network = start c .pre .network; neighbours = start c .pre .neighbours; node = start c .pre .node }
+
 returns : tie.Need-returns
-returns c = sym (own-passes _ _ _ _ (c .if1 .taken))
+returns c = own-passes _ _ _ _ (c .if1 .taken)
 
 returns-2 : tie.Need-returns-2
-returns-2 c = sym (nowhere-passes _ _ _ _ (c .before .if1 .left) (c .if2 .taken))
+returns-2 c = nowhere-passes _ _ _ _ (c .before .if1 .left) (c .if2 .taken)
 
 look-up-requires : tie.Need-look-up-requires
-look-up-requires c κs = search needs
+look-up-requires c κs = asked c
 
 enum-told : tie.Need-enum-told
 enum-told c = search needs
@@ -22,13 +29,15 @@ enum-told-2 c = search needs
 
 returns-3 : tie.Need-returns-3
 returns-3 c =
-    sym (neighbour-passes _ _ _ _ (c .before .before .before .before .if1 .left) (c .before .before .before .if2 .left) _ (c .before .before .look-up .ensures)
-    ∙ absent-fails _ (c .enum-told2 .given .1))
+    let told = c .before .before in
+    absent-fails _ _ _ _ (told .before .before .if1 .left) (told .before .if2 .left) (told .look-up .ensures (asked (told .before)))
+    (c .enum-told2 .given .1)
 
 returns-4 : tie.Need-returns-4
 returns-4 c =
-    sym (neighbour-passes _ _ _ _ (c .before .before .before .before .if1 .left) (c .before .before .before .if2 .left) _ (c .before .before .look-up .ensures)
-    ∙ next-passes _ _ _ (c .enum-told .given .1))
+    let told = c .before .before in
+    next-passes _ _ _ _ (told .before .before .if1 .left) (told .before .if2 .left) (told .look-up .ensures (asked (told .before)))
+    (c .enum-told .given .1)
 
 pub byte-passes-spec : {M : Type 1} → statement M
 byte-passes-spec =

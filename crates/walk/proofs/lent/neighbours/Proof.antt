@@ -1,17 +1,25 @@
--- The loop's invariant: of the links passed, the map says what `Neighbours` asks of all. A link's ends are nodes, so both its places are in
--- the map, and its two interfaces are bytes.
-use Prim.Native.Nat.{_-_, _<_, _≤_}
-use mathlib.Core.Path.{_≡_}
+-- The loop's invariant: of the links passed, the map says what `Neighbours` asks of all. A link's ends are nodes, so both its places are
+-- in the map, and its two interfaces are bytes.
+use Prim.Native.Nat.{ℕ, _-_, _<_, _≤_}
+use mathlib.Core.Path.{_≡_, refl}
+use mathlib.Core.List.{List}
 use native.Mathlib.Omega.{arith}
 use borrow.Author.Needs.{needs}
 use lib.ListN.{length}
 use Rattle.net.specs.Limits.{mostNodes, mostLinks}
+use Rattle.net.specs.Rows.{Rows}
 use Rattle.walk.proofs.Lookup.{NeighboursUpTo, neighbours-start, neighbours-more, neighbours-end}
 use Rattle.walk.proofs.lent.neighbours.Statement.{statement}
 use Rattle.walk.proofs.lent.neighbours.Tie as tie
 
+-- the links below k have stored their interfaces
+record Stored (R : Rows) (links k : ℕ) (map : List ℕ) : Type 0 where
+  all : links ≡ length (R .low)
+  passed : k ≤ links
+  so-far : NeighboursUpTo k R map
+
 abbrev Inv-loop : tie.InvT-loop
-Inv-loop n low high weight map₀ links k₀ map k = (k ≤ links) × NeighboursUpTo k low high map
+Inv-loop n low high weight map₀ links k₀ map k = Stored (record { nodes = n; low = low; high = high; weight = weight }) links k map
 
 abbrev μ-loop : tie.MeasureT-loop
 μ-loop n low high weight map₀ links k₀ map k = links - k
@@ -34,7 +42,7 @@ ends-below c =
     )
 
 loop-holds : tie.Need-loop-holds Inv-loop μ-loop
-loop-holds c = (search needs, neighbours-start _ _)
+loop-holds c = record { all = refl; passed = search needs; so-far = neighbours-start _ }
 
 end-at-requires : tie.Need-end-at-requires Inv-loop μ-loop
 end-at-requires c κs = search needs
@@ -82,18 +90,22 @@ loop-less : tie.Need-loop-less Inv-loop μ-loop
 loop-less c = omega arith
 
 loop-again : tie.Need-loop-again Inv-loop μ-loop
-loop-again c = (
-  omega arith,
-  rw (c .end-at2 .ensures, c .before .end-at .ensures)
-      (neighbours-more _ _ _ _ (start c .pre) (c .before .before .before .loop .k) (c .before .before .loop-test .taken) _
-      (c .before .before .before .loop .inv .1)),
-)
+loop-again c =
+    let at = c .before .before .before .loop in
+    record {
+      all = at .inv .all;
+      passed = omega arith;
+      so-far =
+          rw (c .end-at2 .ensures, c .before .end-at .ensures)
+          (neighbours-more _ (start c .pre) (at .k) (c .before .before .loop-test .taken) _ (at .inv .so-far));
+    }
 
 returns : tie.Need-returns Inv-loop μ-loop
 returns c =
+    let at = c .before .loop in
     let links = length (c .before .before .before .before .before .args .low .now) in
-    let whole : c .before .loop .k ≡ links = omega (arith, c .before .loop .inv .0, c .loop-test .left) in
-    neighbours-end _ _ _ (rw whole at (c .before .loop .inv .1))
+    let whole : at .k ≡ links = omega (arith, at .inv .passed, c .loop-test .left) in
+    neighbours-end _ _ (rw whole at (at .inv .so-far))
 
 pub neighbours-spec : {M : Type 1} → statement M
 neighbours-spec =

@@ -1,38 +1,57 @@
 -- The loop's invariant: every row passed is accepted. A row is wholly in the table, and its deciding node is its own number.
 use Prim.Native.Nat.{ℕ, _+_, _*_, _-_, _≤_}
-use mathlib.Core.Bool.{true}
 use mathlib.Core.Path.{_≡_, refl, sym, _∙_}
 use native.Mathlib.Omega.{arith}
 use borrow.Author.Needs.{needs}
 use borrow.Author.Tests.{not-true, not-false}
 use lib.ListN.{length}
-use Rattle.walk.specs.Lent.{allBelow}
-use Rattle.walk.proofs.Below.{rowTest, table-is, row-within, row-as-part, below-none, below-one-more, below-fails, below-all}
+use Rattle.net.specs.Rows.{Rows}
+use Rattle.walk.proofs.Below.{
+  rowTest,
+  RowsPassed,
+  table-is,
+  row-within,
+  row-as-part,
+  below-none,
+  below-one-more,
+  below-fails,
+  below-all,
+}
 use Rattle.walk.proofs.lent.routing_passes.Statement.{statement}
 use Rattle.walk.proofs.lent.routing_passes.Tie as tie
 
 abbrev Inv-loop : tie.InvT-loop
-Inv-loop map n table i₀ i = (i ≤ n) × (allBelow i (rowTest map n (λ (i : ℕ). i) table) ≡ true)
+Inv-loop map n low high weight table i₀ i =
+    RowsPassed (record { nodes = n; low = low; high = high; weight = weight }) (λ (i : ℕ). i) table n i
 
 abbrev μ-loop : tie.MeasureT-loop
-μ-loop map n table i₀ i = n - i
+μ-loop map n low high weight table i₀ i = n - i
 
-abbrev start : tie.In-loop Inv-loop μ-loop → tie.Start Inv-loop μ-loop
-start c = c .before .before .before .before
+-- a turn of the loop
+abbrev Turn : Type 0
+Turn = tie.In-loop Inv-loop μ-loop
 
--- the row of this turn is in the table
-in-table : (c : tie.In-loop Inv-loop μ-loop) → let a = start c .args in c .before .loop .i * a .n + a .n ≤ length (a .table .now)
-in-table c = row-within _ _ _ _ (c .loop-test .taken) (start c .pre .2)
+abbrev start : Turn → tie.Start Inv-loop μ-loop
+start c = c .before .before .before .before .before .before .before
+
+abbrev network : Turn → Rows
+network c =
+    let a = start c .args in
+    record { nodes = a .n; low = a .low .now; high = a .high .now; weight = a .weight .now }
+
+-- its row is in the table
+in-table : (c : Turn) → let a = start c .args in c .before .loop .i * a .n + a .n ≤ length (a .table .now)
+in-table c = row-within _ _ _ _ (c .loop-test .taken) (start c .pre .room)
 
 -- what the call says of it
-row-told : (c : tie.After-row-passes Inv-loop μ-loop) → let at = c .before .before in
-    rowTest (start at .args .map .now) (start at .args .n) (λ (i : ℕ). i) (start at .args .table .now) (at .before .loop .i) ≡ c .row-passes .result
+row-told : (c : tie.After-row-passes Inv-loop μ-loop) → let turn = c .before .before in
+    rowTest (network turn) (λ (i : ℕ). i) (start turn .args .table .now) (turn .before .loop .i) ≡ c .row-passes .result
 row-told c =
-    let at = c .before .before in
-    row-as-part _ (start at .args .n) (λ (i : ℕ). i) (start at .args .table .now) (at .before .loop .i) _ refl (c .row-passes .ensures)
+    let turn = c .before .before in
+    row-as-part (network turn) (λ (i : ℕ). i) (start turn .args .table .now) (turn .before .loop .i) _ refl (c .row-passes .ensures)
 
 loop-holds : tie.Need-loop-holds Inv-loop μ-loop
-loop-holds c = (search needs, below-none _)
+loop-holds c = record { within = search needs; so-far = below-none _ }
 
 mul-from : tie.Need-mul-from Inv-loop μ-loop
 mul-from c = omega (arith, in-table c)
@@ -50,11 +69,16 @@ part-row-passes-end : tie.Need-part-row-passes-end Inv-loop μ-loop
 part-row-passes-end c = omega (arith, in-table c)
 
 row-passes-requires : tie.Need-row-passes-requires Inv-loop μ-loop
-row-passes-requires c κs = search needs
+row-passes-requires c κs =
+    let turn = c .before in
+    let pre = start turn .pre in
+    record { network = pre .network; neighbours = pre .neighbours; node = pre .nodes (turn .before .loop .i) (turn .loop-test .taken) }
 
 returns : tie.Need-returns Inv-loop μ-loop
 returns c =
-    sym (table-is _ _ _ _ _ ∙ below-fails _ _ _ (c .before .before .before .loop-test .taken) (row-told (c .before) ∙ not-true _ (c .if1 .taken)))
+    let turn = c .before .before .before in
+    sym (table-is _ _ _ _ (start turn .pre .room)
+    ∙ below-fails _ _ _ (turn .loop-test .taken) (row-told (c .before) ∙ not-true _ (c .if1 .taken)))
 
 add-i : tie.Need-add-i Inv-loop μ-loop
 add-i c = omega arith
@@ -63,10 +87,18 @@ loop-less : tie.Need-loop-less Inv-loop μ-loop
 loop-less c = omega arith
 
 loop-again : tie.Need-loop-again Inv-loop μ-loop
-loop-again c = (omega arith, below-one-more _ _ (c .before .before .before .before .loop .inv .1) (row-told (c .before) ∙ not-false _ (c .if1 .left)))
+loop-again c =
+    let at = c .before .before .before .before .loop in
+    record {
+      within = omega arith;
+      so-far = below-one-more _ _ (at .inv .so-far) (row-told (c .before) ∙ not-false _ (c .if1 .left));
+    }
 
 returns-2 : tie.Need-returns-2 Inv-loop μ-loop
-returns-2 c = sym (table-is _ _ _ _ _ ∙ below-all _ _ _ (c .before .loop .inv .0) (c .loop-test .left) (c .before .loop .inv .1))
+returns-2 c =
+    let at = c .before .loop in
+    sym (table-is _ _ _ _ (c .before .before .before .before .before .before .before .pre .room)
+    ∙ below-all _ _ _ (at .inv .within) (c .loop-test .left) (at .inv .so-far))
 
 pub routing-passes-spec : {M : Type 1} → statement M
 routing-passes-spec =

@@ -1,24 +1,39 @@
 -- The loop's invariant: every byte passed is accepted.
-use Prim.Native.Nat.{_≤_, _-_}
+use Prim.Native.Nat.{ℕ, _≤_, _-_}
 use mathlib.Core.Bool.{true}
 use mathlib.Core.Path.{_≡_, sym, _∙_}
+use mathlib.Core.List.{List}
 use native.Mathlib.Omega.{arith}
 use borrow.Author.Needs.{needs}
 use borrow.Author.Tests.{not-true, not-false}
 use lib.ListN.{length}
+use Rattle.net.specs.Rows.{Rows}
 use Rattle.walk.specs.Lent.{allBelow}
 use Rattle.walk.proofs.Below.{byteTest, row-is, below-none, below-one-more, below-fails, below-all}
 use Rattle.walk.proofs.lent.row_passes.Statement.{statement}
 use Rattle.walk.proofs.lent.row_passes.Tie as tie
 
+-- the bytes below d have passed
+record Passed (R : Rows) (i : ℕ) (row : List ℕ) (d : ℕ) : Type 0 where
+  within : d ≤ length row
+  so-far : allBelow d (byteTest R i row) ≡ true
+
 abbrev Inv-loop : tie.InvT-loop
-Inv-loop map i row d₀ d = (d ≤ length row) × (allBelow d (byteTest map i row) ≡ true)
+Inv-loop map n low high weight node row d₀ d =
+    Passed (record { nodes = n; low = low; high = high; weight = weight }) (node .0) row d
 
 abbrev μ-loop : tie.MeasureT-loop
-μ-loop map i row d₀ d = length row - d
+μ-loop map n low high weight node row d₀ d = length row - d
+
+-- what the call says of the byte of this turn
+byte-told : (c : tie.After-byte-passes Inv-loop μ-loop) → let turn = c .before .before in
+    let a = turn .before .before .before .before .before .before .before .args in
+    byteTest (record { nodes = a .n; low = a .low .now; high = a .high .now; weight = a .weight .now }) (a .node .0) (a .row .now)
+    (turn .before .loop .d) ≡ c .byte-passes .result
+byte-told c = sym (c .byte-passes .ensures)
 
 loop-holds : tie.Need-loop-holds Inv-loop μ-loop
-loop-holds c = (search needs, below-none _)
+loop-holds c = record { within = search needs; so-far = below-none _ }
 
 shared-slice-read-byte-passes : tie.Need-shared-slice-read-byte-passes Inv-loop μ-loop
 shared-slice-read-byte-passes c = omega arith
@@ -29,7 +44,7 @@ byte-passes-requires c κs = search needs
 returns : tie.Need-returns Inv-loop μ-loop
 returns c =
     sym (row-is _ _ _
-    ∙ below-fails _ _ _ (c .before .before .before .loop-test .taken) (sym (c .before .byte-passes .ensures) ∙ not-true _ (c .if1 .taken)))
+    ∙ below-fails _ _ _ (c .before .before .before .loop-test .taken) (byte-told (c .before) ∙ not-true _ (c .if1 .taken)))
 
 add-d : tie.Need-add-d Inv-loop μ-loop
 add-d c = omega arith
@@ -38,13 +53,17 @@ loop-less : tie.Need-loop-less Inv-loop μ-loop
 loop-less c = omega arith
 
 loop-again : tie.Need-loop-again Inv-loop μ-loop
-loop-again c = (
-  omega arith,
-  below-one-more _ _ (c .before .before .before .before .loop .inv .1) (sym (c .before .byte-passes .ensures) ∙ not-false _ (c .if1 .left)),
-)
+loop-again c =
+    let at = c .before .before .before .before .loop in
+    record {
+      within = omega arith;
+      so-far = below-one-more _ _ (at .inv .so-far) (byte-told (c .before) ∙ not-false _ (c .if1 .left));
+    }
 
 returns-2 : tie.Need-returns-2 Inv-loop μ-loop
-returns-2 c = sym (row-is _ _ _ ∙ below-all _ _ _ (c .before .loop .inv .0) (c .loop-test .left) (c .before .loop .inv .1))
+returns-2 c =
+    let at = c .before .loop in
+    sym (row-is _ _ _ ∙ below-all _ _ _ (at .inv .within) (c .loop-test .left) (at .inv .so-far))
 
 pub row-passes-spec : {M : Type 1} → statement M
 row-passes-spec =

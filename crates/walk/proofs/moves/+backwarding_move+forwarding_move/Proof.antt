@@ -1,37 +1,57 @@
 -- The walk's two moves, which call each other. Where `left` hops are left, the forwarding move has the measure 2 * left + 1 and the
 -- backwarding move 2 * left: turning to the backwarding move lowers it by one, and crossing a link lowers `left`. Answer and trace go
 -- together (`Went`): a move that ends leaves the trace, and one that crosses a link has stored the node there, so that the rest of the
--- walk is the whole. An interface that the look-up names has its row in both tables (`row-reached`).
-use Prim.Native.Nat.{ℕ, _+_, _*_, _<_, _≤_}
-use mathlib.Core.Path.{_≡_, sym, _∙_}
+-- walk is the whole. An interface that the look-up names has its row in both tables, in every network that the lent things belong to.
+use Prim.Native.Nat.{ℕ, _+_, _*_, _^_, _<_, _≤_}
+use mathlib.Core.Path.{_≡_, refl, sym, _∙_}
 use mathlib.Core.Logic.{_≢_}
 use native.Mathlib.Omega.{arith}
 use borrow.Author.Needs.{needs}
 use borrow.Fn.Kinds.{In}
 use borrow.Fn.PlainCycle.{Measures, is, falls, and}
 use lib.ListN.{length, getD, length-set}
+use Rattle.graph.specs.Walk.{delivered, dropped, exhausted}
 use Rattle.net.specs.Limits.{mostNodes}
-use Rattle.walk.specs.Moves.{foundIn}
-use Rattle.walk.specs.declared.lent.Found.the-variants.{Next}
-use Rattle.walk.proofs.Answers.{leads-on, row-reached}
-use Rattle.walk.proofs.Trails.{trail-delivered, trail-exhausted, trail-lost, trail-turns, trail-on, around-lost, around-failed, around-on, went-ends, went-on}
+use Rattle.net.specs.declared.interface.Interface.{Interface}
+use Rattle.net.specs.declared.interface.Node.{Node}
+use Rattle.walk.specs.Walk.{endingNumber}
+use Rattle.walk.specs.inner.Ground.{Ground}
+use Rattle.walk.specs.inner.Moves.{lostEnding, movedOn}
+use Rattle.walk.proofs.Grounds as grounds
+use Rattle.walk.proofs.Courses.{course-delivered, course-exhausted, course-lost, course-turns, course-on, turned-lost, turned-drops}
+use Rattle.walk.proofs.Courses.{turned-on, went-ends, went-same, went-over}
 use Rattle.walk.proofs.moves.backwarding_move.Reads as backwarding-move
 use Rattle.walk.proofs.moves.backwarding_move.Kinds as backwarding-move-kinds
-use Rattle.walk.proofs.moves.+backwarding_move+forwarding_move.Lts-backwarding_move as backwarding-move-lts
+use Rattle.walk.proofs.moves.+backwarding_move+forwarding_move.Lts-backwarding_move as backwarding-lts
 use Rattle.walk.proofs.moves.forwarding_move.Reads as forwarding-move
 use Rattle.walk.proofs.moves.forwarding_move.Kinds as forwarding-move-kinds
-use Rattle.walk.proofs.moves.+backwarding_move+forwarding_move.Lts-forwarding_move as forwarding-move-lts
+use Rattle.walk.proofs.moves.+backwarding_move+forwarding_move.Lts-forwarding_move as forwarding-lts
+use Rattle.net.proofs.blocked.Reads as blocked
 use Rattle.walk.proofs.lent.look_up.Reads as look-up
-use Rattle.walk.proofs.steps.fails.Reads as fails
+use Rattle.walk.proofs.moves.lost_ending.Reads as lost-ending
+use Rattle.walk.proofs.moves.moved.Reads as moved
 use Rattle.walk.proofs.moves.+backwarding_move+forwarding_move.{statement}
 use Rattle.walk.proofs.moves.+backwarding_move+forwarding_move.Tie.{close}
 
--- the ninth argument of either is `left`
+-- the sixth argument of either is the packet
 abbrev μ-backwarding-move : Measures 4 backwarding-move-kinds.ps ℕ
-μ-backwarding-move κs a = 2 * a .1 .1 .1 .1 .1 .1 .1 .1 .0
+μ-backwarding-move κs a = 2 * a .1 .1 .1 .1 .1 .0 .left
 
 abbrev μ-forwarding-move : Measures 4 forwarding-move-kinds.ps ℕ
-μ-forwarding-move κs a = 2 * a .1 .1 .1 .1 .1 .1 .1 .1 .0 + 1
+μ-forwarding-move κs a = 2 * a .1 .1 .1 .1 .1 .0 .left + 1
+
+-- the numbers of the endings, as the code says them
+delivered-number : 0 ≡ endingNumber delivered
+unfolding endingNumber
+delivered-number = refl
+
+dropped-number : 2 ≡ endingNumber dropped
+unfolding endingNumber
+dropped-number = refl
+
+exhausted-number : 3 ≡ endingNumber exhausted
+unfolding endingNumber
+exhausted-number = refl
 
 -- what a move is given at the measure t, what a call of it asks below t, and what it calls
 module _ (t : ℕ) where
@@ -47,293 +67,454 @@ module _ (t : ℕ) where
   abbrev forwarding-move-below : In 4 forwarding-move-kinds.ps
   forwarding-move-below = and 4 forwarding-move-kinds.ps (falls 4 forwarding-move-kinds.ps _<_ μ-forwarding-move t) forwarding-move.Pre
 
-  abbrev backwarding-calls : backwarding-move-lts.Claims
-  backwarding-calls = (look-up.Asked, look-up.Learnt, fails.Asked, fails.Learnt, forwarding-move-below, forwarding-move.Post)
-
-  abbrev forwarding-calls : forwarding-move-lts.Claims
-  forwarding-calls = (
+  abbrev backwarding-calls : backwarding-lts.Claims
+  backwarding-calls = (
     look-up.Asked,
     look-up.Learnt,
-    fails.Asked,
-    fails.Learnt,
-    backwarding-move-below,
-    backwarding-move.Post,
+    blocked.Asked,
+    blocked.Learnt,
+    moved.Asked,
+    moved.Learnt,
     forwarding-move-below,
     forwarding-move.Post,
   )
 
-  -- where the entry that it reads has an answer: the look-up has found it, so its node is below the limit and its interface has rows
+  abbrev forwarding-calls : forwarding-lts.Claims
+  forwarding-calls = (
+    look-up.Asked,
+    look-up.Learnt,
+    lost-ending.Asked,
+    lost-ending.Learnt,
+    blocked.Asked,
+    blocked.Learnt,
+    backwarding-move-below,
+    backwarding-move.Post,
+    moved.Asked,
+    moved.Learnt,
+    forwarding-move-below,
+    forwarding-move.Post,
+  )
+
+  -- the forwarding move: the places that its facts are told at, and the names of what is known there
+  abbrev forwarding-begun : Type 0
+  forwarding-begun = forwarding-lts.Start forwarding-calls forwarding-move-at forwarding-move.Post
+
+  abbrev forwarding-answered : Type 0
+  forwarding-answered = forwarding-lts.After-known-told forwarding-calls forwarding-move-at forwarding-move.Post
+
+  abbrev forwarding-works : Type 0
+  forwarding-works = forwarding-lts.Else3 forwarding-calls forwarding-move-at forwarding-move.Post
+
+  abbrev forwarding-start : forwarding-answered → forwarding-begun
+  forwarding-start c = c .before .before .before .before .before .before .before .before .before .before .before .before .before
+
+  -- the answer's node and interface
+  abbrev forwarding-node : forwarding-answered → Node
+  forwarding-node c = c .before .node .given .0 .0
+
+  abbrev forwarding-interface : forwarding-answered → Interface
+  forwarding-interface c = c .before .node .given .0 .1 .0
+
+  -- the backwarding move: the places that its facts are told at, and the names of what is known there
+  abbrev backwarding-begun : Type 0
+  backwarding-begun = backwarding-lts.Start backwarding-calls backwarding-move-at backwarding-move.Post
+
   abbrev backwarding-answered : Type 0
-  backwarding-answered = backwarding-move-lts.After-known-told backwarding-calls backwarding-move-at backwarding-move.Post
+  backwarding-answered = backwarding-lts.After-known-told backwarding-calls backwarding-move-at backwarding-move.Post
 
-  abbrev backwarding-start : backwarding-answered → backwarding-move-lts.Start backwarding-calls backwarding-move-at backwarding-move.Post
-  backwarding-start c = c .before .before .before .before .before .before .before .before .before
+  abbrev backwarding-works : Type 0
+  backwarding-works = backwarding-lts.Else1 backwarding-calls backwarding-move-at backwarding-move.Post
 
-  backwarding-found : (c : backwarding-answered)
-      → let a = backwarding-start c .args in
-      foundIn (a .map .now) (a .i) (getD (a .backwarding .now) (a .f * a .n + a .d) 0) ≡ Next (c .before .v .given .0 .0) (c .before .v .given .0 .1 .0)
-  backwarding-found c = sym (c .before .before .before .look-up .ensures) ∙ c .before .v .given .1
+  abbrev backwarding-start : backwarding-answered → backwarding-begun
+  backwarding-start c = c .before .before .before .before .before .before .before .before .before .before .before
 
-  backwarding-node : (c : backwarding-answered) → c .before .v .given .0 .0 < mostNodes
-  backwarding-node c = leads-on _ _ _ _ _ (backwarding-found c) .node
+  -- the answer's node and interface
+  abbrev backwarding-node : backwarding-answered → Node
+  backwarding-node c = c .before .node .given .0 .0
 
-  backwarding-row : (c : backwarding-answered) → let a = backwarding-start c .args in c .before .v .given .0 .1 .0 * a .n + a .n ≤ length (a .forwarding .now)
-  backwarding-row c =
-      row-reached _ _ _ _ _ _ _ (backwarding-start c .pre .1 .0 .0) (backwarding-start c .pre .1 .0 .3) (backwarding-start c .pre .1 .1 .0 .0)
-      (backwarding-found c)
+  abbrev backwarding-interface : backwarding-answered → Interface
+  backwarding-interface c = c .before .node .given .0 .1 .0
 
-  backwarding-move-mul-look-up : backwarding-move-lts.Need-mul-look-up backwarding-calls backwarding-move-at backwarding-move.Post
-  backwarding-move-mul-look-up c = search needs
+  -- In any network that the lent things belong to, the look-up answered as the entry says. The precondition tells of one such network.
+  module _ (c : forwarding-answered) where
+    abbrev forwarding-ground : Type 0
+    forwarding-ground =
+        let a = forwarding-start c .args in Ground (a .n) (a .map .now) (a .forwarding .now) (a .backwarding .now)
 
-  backwarding-move-add-look-up : backwarding-move-lts.Need-add-look-up backwarding-calls backwarding-move-at backwarding-move.Post
-  backwarding-move-add-look-up c = search needs
+    forwarding-leads : (on : forwarding-ground)
+        → let a = forwarding-start c .args in
+        grounds.Leads on (a .packet .node .0) (a .packet .entry) (forwarding-node c) (forwarding-interface c)
+    forwarding-leads on =
+        grounds.leads on _ _ (c .before .before .before .look-up .ensures (grounds.look-up-at on _ (forwarding-start c .pre .1 .node))) _ _
+        (c .before .node .given .1)
 
-  backwarding-move-shared-slice-read-look-up : backwarding-move-lts.Need-shared-slice-read-look-up backwarding-calls backwarding-move-at backwarding-move.Post
-  backwarding-move-shared-slice-read-look-up c = search needs
+    forwarding-known : let on = forwarding-start c .pre .1 .ground in
+        let a = forwarding-start c .args in
+        grounds.Leads on (a .packet .node .0) (a .packet .entry) (forwarding-node c) (forwarding-interface c)
+    forwarding-known = forwarding-leads (forwarding-start c .pre .1 .ground)
 
-  backwarding-move-look-up-requires : backwarding-move-lts.Need-look-up-requires backwarding-calls backwarding-move-at backwarding-move.Post
-  backwarding-move-look-up-requires c κs = search needs
+    forwarding-few : forwarding-start c .args .n ≤ mostNodes
+    forwarding-few = grounds.few-nodes (forwarding-start c .pre .1 .ground)
 
-  backwarding-move-enum-known-v : backwarding-move-lts.Need-enum-known-v backwarding-calls backwarding-move-at backwarding-move.Post
-  backwarding-move-enum-known-v c = search needs
+    -- the two tests before that
+    forwarding-away : let a = forwarding-start c .args in a .packet .node .0 ≢ a .question .destination .0
+    forwarding-away = c .before .before .before .before .before .before .if1 .left
 
-  backwarding-move-enum-told : backwarding-move-lts.Need-enum-told backwarding-calls backwarding-move-at backwarding-move.Post
+    forwarding-some : forwarding-start c .args .packet .left ≢ 0
+    forwarding-some = c .before .before .before .before .if2 .left
+
+  module _ (c : backwarding-answered) where
+    abbrev backwarding-ground : Type 0
+    backwarding-ground =
+        let a = backwarding-start c .args in Ground (a .n) (a .map .now) (a .forwarding .now) (a .backwarding .now)
+
+    -- the byte that was looked up
+    abbrev backwarding-byte : ℕ
+    backwarding-byte = let a = backwarding-start c .args in getD (a .backwarding .now) (a .f .0 * a .n + a .question .destination .0) 0
+
+    backwarding-leads : (on : backwarding-ground)
+        → grounds.Leads on (backwarding-start c .args .packet .node .0) backwarding-byte (backwarding-node c) (backwarding-interface c)
+    backwarding-leads on =
+        let known = backwarding-start c .pre .1 .standing in
+        grounds.leads on _ _ (c .before .before .before .look-up .ensures (grounds.look-up-at on _ (known .node))) _ _
+        (c .before .node .given .1)
+
+    backwarding-known : let on = backwarding-start c .pre .1 .standing .ground in
+        grounds.Leads on (backwarding-start c .args .packet .node .0) backwarding-byte (backwarding-node c) (backwarding-interface c)
+    backwarding-known = backwarding-leads (backwarding-start c .pre .1 .standing .ground)
+
+    backwarding-few : backwarding-start c .args .n ≤ mostNodes
+    backwarding-few = grounds.few-nodes (backwarding-start c .pre .1 .standing .ground)
+
+  -- lent buffers are no longer than can be counted
+  forwarding-trace : (c : forwarding-begun) → length (c .args .trace .now) < 2 ^ 64
+  forwarding-trace c = omega arith
+
+  forwarding-table : (c : forwarding-begun) → length (c .args .forwarding .now) < 2 ^ 64
+  forwarding-table c = omega arith
+
+  backwarding-trace : (c : backwarding-begun) → length (c .args .trace .now) < 2 ^ 64
+  backwarding-trace c = omega arith
+
+  backwarding-table : (c : backwarding-begun) → length (c .args .forwarding .now) < 2 ^ 64
+  backwarding-table c = omega arith
+
+  back-table : (c : backwarding-begun) → length (c .args .backwarding .now) < 2 ^ 64
+  back-table c = omega arith
+
+  -- the backwarding entry's own row
+  back-row : (c : backwarding-begun) → c .args .f .0 * c .args .n + c .args .n ≤ length (c .args .backwarding .now)
+  back-row c = grounds.backwarding-row (c .pre .1 .standing .ground) (c .args .f .0) (c .pre .1 .interface)
+
+  backwarding-move-mul-back : backwarding-lts.Need-mul-back backwarding-calls backwarding-move-at backwarding-move.Post
+  backwarding-move-mul-back c =
+      let start = c .before .before .before .before .before in
+      grounds.row-fits _ _ _ (back-row start) (back-table start)
+
+  backwarding-move-add-back : backwarding-lts.Need-add-back backwarding-calls backwarding-move-at backwarding-move.Post
+  backwarding-move-add-back c =
+      let start = c .before .before .before .before .before .before in
+      grounds.place-fits _ _ _ _ (back-row start) (start .pre .1 .standing .destination) (back-table start)
+
+  backwarding-move-shared-slice-read-back :
+      backwarding-lts.Need-shared-slice-read-back backwarding-calls backwarding-move-at backwarding-move.Post
+  backwarding-move-shared-slice-read-back c =
+      let start = c .before .before .before .before .before .before .before in
+      grounds.place-within _ _ _ _ (back-row start) (start .pre .1 .standing .destination)
+
+  backwarding-move-look-up-requires : backwarding-lts.Need-look-up-requires backwarding-calls backwarding-move-at backwarding-move.Post
+  backwarding-move-look-up-requires c κs =
+      let known = c .before .before .before .before .before .before .before .pre .1 .standing in
+      grounds.look-up-at (known .ground) _ (known .node)
+
+  backwarding-move-enum-known-node : backwarding-lts.Need-enum-known-node backwarding-calls backwarding-move-at backwarding-move.Post
+  backwarding-move-enum-known-node c = search needs
+
+  backwarding-move-enum-told : backwarding-lts.Need-enum-told backwarding-calls backwarding-move-at backwarding-move.Post
   backwarding-move-enum-told c = search needs
 
-  backwarding-move-returns : backwarding-move-lts.Need-returns backwarding-calls backwarding-move-at backwarding-move.Post
-  backwarding-move-returns c = went-ends _ _ _ (around-lost _ _ _ _ _ _ _ _ _ (sym (c .before .before .look-up .ensures) ∙ c .enum-told .given .1))
+  backwarding-move-returns : backwarding-lts.Need-returns backwarding-calls backwarding-move-at backwarding-move.Post
+  backwarding-move-returns c on leaves =
+      let start = c .before .before .before .before .before .before .before .before .before .before in
+      let told = c .before .before .look-up .ensures (grounds.look-up-at on _ (start .pre .1 .standing .node)) in
+      went-ends _ _ _ dropped _ dropped-number
+      (turned-lost on _ _ (start .args .f .0) leaves (grounds.absent on _ _ told (c .enum-told .given .1)))
 
-  backwarding-move-fails-requires : backwarding-move-lts.Need-fails-requires backwarding-calls backwarding-move-at backwarding-move.Post
-  backwarding-move-fails-requires c κs = search needs
+  backwarding-move-blocked-requires : backwarding-lts.Need-blocked-requires backwarding-calls backwarding-move-at backwarding-move.Post
+  backwarding-move-blocked-requires c κs = search needs
 
-  backwarding-move-returns-2 : backwarding-move-lts.Need-returns-2 backwarding-calls backwarding-move-at backwarding-move.Post
-  backwarding-move-returns-2 c =
-      went-ends _ _ _ (around-failed _ _ _ _ _ _ _ _ _ _ _ (backwarding-found (c .before .before)) (sym (c .before .fails .ensures) ∙ c .if1 .taken))
+  backwarding-move-returns-2 : backwarding-lts.Need-returns-2 backwarding-calls backwarding-move-at backwarding-move.Post
+  backwarding-move-returns-2 c on leaves =
+      let at = c .before .before in
+      went-ends _ _ _ dropped _ dropped-number
+      (turned-drops on _ _ _ leaves _ (backwarding-leads at on .entry) (sym (c .before .blocked .ensures) ∙ c .if1 .taken))
 
-  backwarding-move-add-next : backwarding-move-lts.Need-add-next backwarding-calls backwarding-move-at backwarding-move.Post
-  backwarding-move-add-next c = search needs
+  backwarding-move-add-next : backwarding-lts.Need-add-next backwarding-calls backwarding-move-at backwarding-move.Post
+  backwarding-move-add-next c =
+      let at = c .before .before .before in
+      let start = backwarding-start at in
+      grounds.hop-fits _ (start .args .packet .left) _ (start .pre .1 .standing .room)
+      (λ e. omega (arith, start .pre .1 .some)) (backwarding-trace start)
 
-  backwarding-move-cast-trace : backwarding-move-lts.Need-cast-trace backwarding-calls backwarding-move-at backwarding-move.Post
-  backwarding-move-cast-trace c = omega (arith, backwarding-node (c .before .before))
-
-  backwarding-move-slice-write-trace : backwarding-move-lts.Need-slice-write-trace backwarding-calls backwarding-move-at backwarding-move.Post
-  backwarding-move-slice-write-trace c = search needs
-
-  backwarding-move-mul-forwarding-move : backwarding-move-lts.Need-mul-forwarding-move backwarding-calls backwarding-move-at backwarding-move.Post
-  backwarding-move-mul-forwarding-move c = omega (arith, backwarding-row (c .before .before))
-
-  backwarding-move-add-forwarding-move : backwarding-move-lts.Need-add-forwarding-move backwarding-calls backwarding-move-at backwarding-move.Post
-  backwarding-move-add-forwarding-move c = omega (arith, backwarding-row (c .before .before))
-
-  backwarding-move-shared-slice-read-forwarding-move :
-      backwarding-move-lts.Need-shared-slice-read-forwarding-move backwarding-calls backwarding-move-at backwarding-move.Post
-  backwarding-move-shared-slice-read-forwarding-move c = omega (arith, backwarding-row (c .before .before .before))
-
-  backwarding-move-sub-forwarding-move : backwarding-move-lts.Need-sub-forwarding-move backwarding-calls backwarding-move-at backwarding-move.Post
-  backwarding-move-sub-forwarding-move c = search needs
-
-  backwarding-move-forwarding-move-requires : backwarding-move-lts.Need-forwarding-move-requires backwarding-calls backwarding-move-at backwarding-move.Post
-  backwarding-move-forwarding-move-requires c κs =
+  backwarding-move-cast-trace : backwarding-lts.Need-cast-trace backwarding-calls backwarding-move-at backwarding-move.Post
+  backwarding-move-cast-trace c =
       let at = c .before .before .before .before in
-      let start = backwarding-start at in (
-        omega (arith, start .pre .0),
-        (
-          (backwarding-node at, start .pre .1 .0 .1, start .pre .1 .0 .2, start .pre .1 .0 .3),
-          (
-            start .pre .1 .1 .0,
-            omega (arith, start .pre .1 .1 .1, length-set (start .args .trace .now) (start .args .hops + 1) (at .before .v .given .0 .0)),
-          ),
-        ),
+      omega (arith, backwarding-known at .node, backwarding-few at)
+
+  backwarding-move-slice-write-trace : backwarding-lts.Need-slice-write-trace backwarding-calls backwarding-move-at backwarding-move.Post
+  backwarding-move-slice-write-trace c =
+      let at = c .before .before .before .before in
+      let start = backwarding-start at in
+      omega (arith, start .pre .1 .standing .room, start .pre .1 .some)
+
+  backwarding-move-mul-entry : backwarding-lts.Need-mul-entry backwarding-calls backwarding-move-at backwarding-move.Post
+  backwarding-move-mul-entry c =
+      let at = c .before .before .before .before .before in
+      grounds.row-fits _ _ _ (backwarding-known at .row) (backwarding-table (backwarding-start at))
+
+  backwarding-move-add-entry : backwarding-lts.Need-add-entry backwarding-calls backwarding-move-at backwarding-move.Post
+  backwarding-move-add-entry c =
+      let at = c .before .before .before .before .before .before in
+      let start = backwarding-start at in
+      grounds.place-fits _ _ _ _ (backwarding-known at .row) (start .pre .1 .standing .destination) (backwarding-table start)
+
+  backwarding-move-shared-slice-read-entry :
+      backwarding-lts.Need-shared-slice-read-entry backwarding-calls backwarding-move-at backwarding-move.Post
+  backwarding-move-shared-slice-read-entry c =
+      let at = c .before .before .before .before .before .before .before in
+      grounds.place-within _ _ _ _ (backwarding-known at .row) (backwarding-start at .pre .1 .standing .destination)
+
+  backwarding-move-moved-requires : backwarding-lts.Need-moved-requires backwarding-calls backwarding-move-at backwarding-move.Post
+  backwarding-move-moved-requires c κs =
+      let at = c .before .before .before .before .before .before .before in
+      let start = backwarding-start at in
+      record {
+        some = omega (arith, backwarding-start (at) .pre .1 .some);
+        counts = omega (arith, start .pre .1 .standing .room, backwarding-start (at) .pre .1 .some, backwarding-trace start);
+      }
+
+  backwarding-move-forwarding-move-requires :
+      backwarding-lts.Need-forwarding-move-requires backwarding-calls backwarding-move-at backwarding-move.Post
+  unfolding movedOn
+  backwarding-move-forwarding-move-requires c κs =
+      let at = c .before .before .before .before .before .before .before .before .before in
+      let start = backwarding-start at in
+      let packet = c .before .moved .ensures in (
+        rw packet (omega (arith, start .pre .0, backwarding-start (at) .pre .1 .some)),
+        record {
+          ground = start .pre .1 .standing .ground;
+          destination = start .pre .1 .standing .destination;
+          node = rw packet (backwarding-known at .node);
+          room = rw packet (omega (
+            arith,
+            start .pre .1 .standing .room,
+            backwarding-start (at) .pre .1 .some,
+            length-set (start .args .trace .now) (start .args .packet .hops + 1) (backwarding-node at .0),
+          ));
+        },
       )
 
-  backwarding-move-same-length : backwarding-move-lts.Need-same-length backwarding-calls backwarding-move-at backwarding-move.Post
+  backwarding-move-same-length : backwarding-lts.Need-same-length backwarding-calls backwarding-move-at backwarding-move.Post
   backwarding-move-same-length c =
-      c .before .before .forwarding-move .kept .1 .1 .1 .1 .1 .1 .1 .1 .1 .1 .1 .0
-      ∙ length-set (backwarding-start (c .before .before .before .before .before .before .before) .args .trace .now)
-      (backwarding-start (c .before .before .before .before .before .before .before) .args .hops + 1)
-      (c .before .before .before .before .before .before .before .before .v .given .0 .0)
+      let at = c .before .before .before .before .before .before .before .before .before .before .before .before in
+      c .before .before .forwarding-move .kept .1 .1 .1 .1 .1 .1 .0
+      ∙ length-set (backwarding-start at .args .trace .now) (backwarding-start at .args .packet .hops + 1) (backwarding-node at .0)
 
-  backwarding-move-returns-3 : backwarding-move-lts.Need-returns-3 backwarding-calls backwarding-move-at backwarding-move.Post
-  backwarding-move-returns-3 c =
-      let at = c .before .before .before .before .before .before .before in
-      went-on _ _ _
-      (around-on _ _ _ _ _ _ _ _ _ _ _ (backwarding-found at)
-      (sym (c .before .before .before .before .before .before .fails .ensures) ∙ c .before .before .before .before .before .if1 .left))
-      (omega (arith, backwarding-start at .pre .1 .1 .1))
-      (c .before .before .forwarding-move .ensures)
+  backwarding-move-returns-3 : backwarding-lts.Need-returns-3 backwarding-calls backwarding-move-at backwarding-move.Post
+  backwarding-move-returns-3 c on leaves =
+      let works = c .before .before .before .before .before .before .before .before .before .before in
+      let at = works .before .before in
+      let start = backwarding-start at in
+      let moved = c .before .before .before .before .moved in
+      went-over on (start .args .question) (start .args .packet) (moved .result) (backwarding-node at) (backwarding-interface at .0)
+      (turned-on on _ _ _ leaves _ (backwarding-leads at on .entry) _ (backwarding-leads at on .enters)
+      (sym (works .before .blocked .ensures) ∙ works .if1 .left))
+      (moved .ensures) (backwarding-leads at on .enters)
+      (omega (arith, start .pre .1 .standing .room, start .pre .1 .some))
+      (c .before .before .forwarding-move .ensures on)
 
-  -- where the entry that it reads has an answer: the look-up has found it, so its node is below the limit and its interface has rows
-  abbrev forwarding-answered : Type 0
-  forwarding-answered = forwarding-move-lts.After-known-told forwarding-calls forwarding-move-at forwarding-move.Post
+  forwarding-move-returns : forwarding-lts.Need-returns forwarding-calls forwarding-move-at forwarding-move.Post
+  forwarding-move-returns c on = went-ends _ _ _ delivered _ delivered-number (course-delivered on _ _ (c .if1 .taken))
 
-  abbrev forwarding-start : forwarding-answered → forwarding-move-lts.Start forwarding-calls forwarding-move-at forwarding-move.Post
-  forwarding-start c = c .before .before .before .before .before .before .before .before .before .before
+  forwarding-move-returns-2 : forwarding-lts.Need-returns-2 forwarding-calls forwarding-move-at forwarding-move.Post
+  forwarding-move-returns-2 c on =
+      went-ends _ _ _ exhausted _ exhausted-number
+      (course-exhausted on _ _ (c .before .before .if1 .left) (c .if2 .taken))
 
-  forwarding-found : (c : forwarding-answered)
-      → let a = forwarding-start c .args in foundIn (a .map .now) (a .i) (a .byte) ≡ Next (c .before .v .given .0 .0) (c .before .v .given .0 .1 .0)
-  forwarding-found c = sym (c .before .before .before .look-up .ensures) ∙ c .before .v .given .1
+  forwarding-move-look-up-requires : forwarding-lts.Need-look-up-requires forwarding-calls forwarding-move-at forwarding-move.Post
+  forwarding-move-look-up-requires c κs =
+      let known = c .before .before .before .before .before .before .before .before .before .pre .1 in
+      grounds.look-up-at (known .ground) _ (known .node)
 
-  forwarding-node : (c : forwarding-answered) → c .before .v .given .0 .0 < mostNodes
-  forwarding-node c = leads-on _ _ _ _ _ (forwarding-found c) .node
+  forwarding-move-enum-known-node : forwarding-lts.Need-enum-known-node forwarding-calls forwarding-move-at forwarding-move.Post
+  forwarding-move-enum-known-node c = search needs
 
-  forwarding-row : (c : forwarding-answered) → let a = forwarding-start c .args in c .before .v .given .0 .1 .0 * a .n + a .n ≤ length (a .forwarding .now)
-  forwarding-row c =
-      row-reached _ _ _ _ _ _ _ (forwarding-start c .pre .1 .0 .0) (forwarding-start c .pre .1 .0 .3) (forwarding-start c .pre .1 .1 .0 .0)
-      (forwarding-found c)
-
-  forwarding-row-back : (c : forwarding-answered) → let a = forwarding-start c .args in c .before .v .given .0 .1 .0 * a .n + a .n ≤ length (a .backwarding .now)
-  forwarding-row-back c =
-      row-reached _ _ _ _ _ _ _ (forwarding-start c .pre .1 .0 .0) (forwarding-start c .pre .1 .0 .3) (forwarding-start c .pre .1 .1 .0 .1)
-      (forwarding-found c)
-
-  -- the two tests before that
-  forwarding-under : (c : forwarding-answered) → let a = forwarding-start c .args in a .i ≢ a .d
-  forwarding-under c = c .before .before .before .before .before .if1 .left
-
-  forwarding-some : (c : forwarding-answered) → forwarding-start c .args .left ≢ 0
-  forwarding-some c = c .before .before .before .before .if2 .left
-
-  forwarding-move-returns : forwarding-move-lts.Need-returns forwarding-calls forwarding-move-at forwarding-move.Post
-  forwarding-move-returns c = went-ends _ _ _ (trail-delivered _ _ _ _ _ _ _ _ _ _ (c .if1 .taken))
-
-  forwarding-move-returns-2 : forwarding-move-lts.Need-returns-2 forwarding-calls forwarding-move-at forwarding-move.Post
-  forwarding-move-returns-2 c = went-ends _ _ _ (trail-exhausted _ _ _ _ _ _ _ _ _ (c .before .if1 .left) _ (c .if2 .taken))
-
-  forwarding-move-look-up-requires : forwarding-move-lts.Need-look-up-requires forwarding-calls forwarding-move-at forwarding-move.Post
-  forwarding-move-look-up-requires c κs = search needs
-
-  forwarding-move-enum-known-v : forwarding-move-lts.Need-enum-known-v forwarding-calls forwarding-move-at forwarding-move.Post
-  forwarding-move-enum-known-v c = search needs
-
-  forwarding-move-enum-told : forwarding-move-lts.Need-enum-told forwarding-calls forwarding-move-at forwarding-move.Post
+  forwarding-move-enum-told : forwarding-lts.Need-enum-told forwarding-calls forwarding-move-at forwarding-move.Post
   forwarding-move-enum-told c = search needs
 
-  forwarding-move-returns-3 : forwarding-move-lts.Need-returns-3 forwarding-calls forwarding-move-at forwarding-move.Post
-  forwarding-move-returns-3 c =
-      went-ends _ _ _ (trail-lost _ _ _ _ _ _ _ _ _ (c .before .before .before .before .if1 .left) _ (c .before .before .before .if2 .left)
-      (sym (c .before .before .look-up .ensures) ∙ c .enum-told .given .1))
+  forwarding-move-lost-ending-requires : forwarding-lts.Need-lost-ending-requires forwarding-calls forwarding-move-at forwarding-move.Post
+  forwarding-move-lost-ending-requires c κs = search needs
 
-  forwarding-move-fails-requires : forwarding-move-lts.Need-fails-requires forwarding-calls forwarding-move-at forwarding-move.Post
-  forwarding-move-fails-requires c κs = search needs
+  forwarding-move-returns-3 : forwarding-lts.Need-returns-3 forwarding-calls forwarding-move-at forwarding-move.Post
+  forwarding-move-returns-3 c on =
+      let start = c .before .before .before .before .before .before .before .before .before .before .before .before .before in
+      let asked = c .before .before .before .before in
+      let told = c .before .before .before .look-up .ensures (grounds.look-up-at on _ (start .pre .1 .node)) in
+      went-ends _ _ _ (lostEnding (start .args .packet .arrived)) _ (c .lost-ending .ensures)
+      (course-lost on _ _ (asked .before .before .if1 .left) (asked .if2 .left)
+      (grounds.absent on _ _ told (c .before .enum-told .given .1)))
 
-  forwarding-move-backwarding-move-requires : forwarding-move-lts.Need-backwarding-move-requires forwarding-calls forwarding-move-at forwarding-move.Post
+  forwarding-move-blocked-requires : forwarding-lts.Need-blocked-requires forwarding-calls forwarding-move-at forwarding-move.Post
+  forwarding-move-blocked-requires c κs = search needs
+
+  forwarding-move-backwarding-move-requires :
+      forwarding-lts.Need-backwarding-move-requires forwarding-calls forwarding-move-at forwarding-move.Post
   forwarding-move-backwarding-move-requires c κs =
       let at = c .before .before .before in
       let start = forwarding-start at in (
         omega (arith, start .pre .0),
-        (
-          start .pre .1 .0,
-          (
-            start .pre .1 .1 .0,
-            (omega (arith, forwarding-some at), start .pre .1 .1 .1, omega (arith, forwarding-row-back at)),
-          ),
-        ),
+        record { standing = start .pre .1; some = omega (arith, forwarding-some at); interface = forwarding-known at .below },
       )
 
-  forwarding-move-same-length : forwarding-move-lts.Need-same-length forwarding-calls forwarding-move-at forwarding-move.Post
-  forwarding-move-same-length c = c .before .before .backwarding-move .kept .1 .1 .1 .1 .1 .1 .1 .1 .1 .1 .0
+  forwarding-move-same-length : forwarding-lts.Need-same-length forwarding-calls forwarding-move-at forwarding-move.Post
+  forwarding-move-same-length c = c .before .before .backwarding-move .kept .1 .1 .1 .1 .1 .1 .1 .0
 
-  forwarding-move-returns-4 : forwarding-move-lts.Need-returns-4 forwarding-calls forwarding-move-at forwarding-move.Post
-  forwarding-move-returns-4 c =
-      let at = c .before .before .before .before .before .before in
-      rw
-      (trail-turns _ _ _ _ _ _ _ _ _ (forwarding-under at) _ _ (forwarding-found at) _ (forwarding-some at)
-      (sym (c .before .before .before .before .before .fails .ensures) ∙ c .before .before .before .before .if3 .taken))
-      (c .before .before .backwarding-move .ensures)
+  forwarding-move-returns-4 : forwarding-lts.Need-returns-4 forwarding-calls forwarding-move-at forwarding-move.Post
+  forwarding-move-returns-4 c on =
+      let failed = c .before .before .before .before in
+      let at = failed .before .before in
+      let start = forwarding-start at in
+      went-same _ _ _
+      (course-turns on (start .args .question) (start .args .packet) (forwarding-away at) (forwarding-some at) (forwarding-interface at .0)
+      (forwarding-leads at on .entry) (sym (failed .before .blocked .ensures) ∙ failed .if3 .taken))
+      (c .before .before .backwarding-move .ensures on (forwarding-leads at on .leaves))
 
-  forwarding-move-add-next : forwarding-move-lts.Need-add-next forwarding-calls forwarding-move-at forwarding-move.Post
-  forwarding-move-add-next c = search needs
+  forwarding-move-add-next : forwarding-lts.Need-add-next forwarding-calls forwarding-move-at forwarding-move.Post
+  forwarding-move-add-next c =
+      let at = c .before .before .before in
+      let start = forwarding-start at in
+      grounds.hop-fits _ (start .args .packet .left) _ (start .pre .1 .room)
+      (forwarding-some at) (forwarding-trace start)
 
-  forwarding-move-cast-trace : forwarding-move-lts.Need-cast-trace forwarding-calls forwarding-move-at forwarding-move.Post
-  forwarding-move-cast-trace c = omega (arith, forwarding-node (c .before .before))
-
-  forwarding-move-slice-write-trace : forwarding-move-lts.Need-slice-write-trace forwarding-calls forwarding-move-at forwarding-move.Post
-  forwarding-move-slice-write-trace c = search needs
-
-  forwarding-move-mul-forwarding-move : forwarding-move-lts.Need-mul-forwarding-move forwarding-calls forwarding-move-at forwarding-move.Post
-  forwarding-move-mul-forwarding-move c = omega (arith, forwarding-row (c .before .before))
-
-  forwarding-move-add-forwarding-move : forwarding-move-lts.Need-add-forwarding-move forwarding-calls forwarding-move-at forwarding-move.Post
-  forwarding-move-add-forwarding-move c = omega (arith, forwarding-row (c .before .before))
-
-  forwarding-move-shared-slice-read-forwarding-move :
-      forwarding-move-lts.Need-shared-slice-read-forwarding-move forwarding-calls forwarding-move-at forwarding-move.Post
-  forwarding-move-shared-slice-read-forwarding-move c = omega (arith, forwarding-row (c .before .before .before))
-
-  forwarding-move-sub-forwarding-move : forwarding-move-lts.Need-sub-forwarding-move forwarding-calls forwarding-move-at forwarding-move.Post
-  forwarding-move-sub-forwarding-move c = search needs
-
-  forwarding-move-forwarding-move-requires : forwarding-move-lts.Need-forwarding-move-requires forwarding-calls forwarding-move-at forwarding-move.Post
-  forwarding-move-forwarding-move-requires c κs =
+  forwarding-move-cast-trace : forwarding-lts.Need-cast-trace forwarding-calls forwarding-move-at forwarding-move.Post
+  forwarding-move-cast-trace c =
       let at = c .before .before .before .before in
-      let start = forwarding-start at in (
-        omega (arith, start .pre .0),
-        (
-          (forwarding-node at, start .pre .1 .0 .1, start .pre .1 .0 .2, start .pre .1 .0 .3),
-          (
-            start .pre .1 .1 .0,
-            omega (arith, start .pre .1 .1 .1, length-set (start .args .trace .now) (start .args .hops + 1) (at .before .v .given .0 .0)),
-          ),
-        ),
+      omega (arith, forwarding-known at .node, forwarding-few at)
+
+  forwarding-move-slice-write-trace : forwarding-lts.Need-slice-write-trace forwarding-calls forwarding-move-at forwarding-move.Post
+  forwarding-move-slice-write-trace c =
+      let at = c .before .before .before .before in
+      let start = forwarding-start at in
+      omega (arith, start .pre .1 .room, forwarding-some at)
+
+  forwarding-move-mul-entry : forwarding-lts.Need-mul-entry forwarding-calls forwarding-move-at forwarding-move.Post
+  forwarding-move-mul-entry c =
+      let at = c .before .before .before .before .before in
+      grounds.row-fits _ _ _ (forwarding-known at .row) (forwarding-table (forwarding-start at))
+
+  forwarding-move-add-entry : forwarding-lts.Need-add-entry forwarding-calls forwarding-move-at forwarding-move.Post
+  forwarding-move-add-entry c =
+      let at = c .before .before .before .before .before .before in
+      let start = forwarding-start at in
+      grounds.place-fits _ _ _ _ (forwarding-known at .row) (start .pre .1 .destination) (forwarding-table start)
+
+  forwarding-move-shared-slice-read-entry :
+      forwarding-lts.Need-shared-slice-read-entry forwarding-calls forwarding-move-at forwarding-move.Post
+  forwarding-move-shared-slice-read-entry c =
+      let at = c .before .before .before .before .before .before .before in
+      grounds.place-within _ _ _ _ (forwarding-known at .row) (forwarding-start at .pre .1 .destination)
+
+  forwarding-move-moved-requires : forwarding-lts.Need-moved-requires forwarding-calls forwarding-move-at forwarding-move.Post
+  forwarding-move-moved-requires c κs =
+      let at = c .before .before .before .before .before .before .before in
+      let start = forwarding-start at in
+      record {
+        some = omega (arith, forwarding-some (at));
+        counts = omega (arith, start .pre .1 .room, forwarding-some (at), forwarding-trace start);
+      }
+
+  forwarding-move-forwarding-move-requires :
+      forwarding-lts.Need-forwarding-move-requires forwarding-calls forwarding-move-at forwarding-move.Post
+  unfolding movedOn
+  forwarding-move-forwarding-move-requires c κs =
+      let at = c .before .before .before .before .before .before .before .before .before in
+      let start = forwarding-start at in
+      let packet = c .before .moved .ensures in (
+        rw packet (omega (arith, start .pre .0, forwarding-some (at))),
+        record {
+          ground = start .pre .1 .ground;
+          destination = start .pre .1 .destination;
+          node = rw packet (forwarding-known at .node);
+          room = rw packet (omega (
+            arith,
+            start .pre .1 .room,
+            forwarding-some (at),
+            length-set (start .args .trace .now) (start .args .packet .hops + 1) (forwarding-node at .0),
+          ));
+        },
       )
 
-  forwarding-move-same-length-2 : forwarding-move-lts.Need-same-length-2 forwarding-calls forwarding-move-at forwarding-move.Post
+  forwarding-move-same-length-2 : forwarding-lts.Need-same-length-2 forwarding-calls forwarding-move-at forwarding-move.Post
   forwarding-move-same-length-2 c =
-      c .before .before .forwarding-move .kept .1 .1 .1 .1 .1 .1 .1 .1 .1 .1 .1 .0
-      ∙ length-set (forwarding-start (c .before .before .before .before .before .before .before) .args .trace .now)
-      (forwarding-start (c .before .before .before .before .before .before .before) .args .hops + 1)
-      (c .before .before .before .before .before .before .before .before .v .given .0 .0)
+      let at = c .before .before .before .before .before .before .before .before .before .before .before .before in
+      c .before .before .forwarding-move .kept .1 .1 .1 .1 .1 .1 .0
+      ∙ length-set (forwarding-start at .args .trace .now) (forwarding-start at .args .packet .hops + 1) (forwarding-node at .0)
 
-  forwarding-move-returns-5 : forwarding-move-lts.Need-returns-5 forwarding-calls forwarding-move-at forwarding-move.Post
-  forwarding-move-returns-5 c =
-      let at = c .before .before .before .before .before .before .before in
-      went-on _ _ _
-      (trail-on _ _ _ _ _ _ _ _ _ (forwarding-under at) _ _ (forwarding-found at) _ (forwarding-some at)
-      (sym (c .before .before .before .before .before .before .fails .ensures) ∙ c .before .before .before .before .before .if3 .left))
-      (omega (arith, forwarding-start at .pre .1 .1 .1, forwarding-some at))
-      (c .before .before .forwarding-move .ensures)
+  forwarding-move-returns-5 : forwarding-lts.Need-returns-5 forwarding-calls forwarding-move-at forwarding-move.Post
+  forwarding-move-returns-5 c on =
+      let works = c .before .before .before .before .before .before .before .before .before .before in
+      let at = works .before .before in
+      let start = forwarding-start at in
+      let moved = c .before .before .before .before .moved in
+      went-over on (start .args .question) (start .args .packet) (moved .result) (forwarding-node at) (forwarding-interface at .0)
+      (course-on on _ _ (forwarding-away at) (forwarding-some at) _ (forwarding-leads at on .entry) _ (forwarding-leads at on .enters)
+      (sym (works .before .blocked .ensures) ∙ works .if3 .left))
+      (moved .ensures) (forwarding-leads at on .enters)
+      (omega (arith, start .pre .1 .room, forwarding-some at))
+      (c .before .before .forwarding-move .ensures on)
 
 pub +backwarding-move+forwarding-move-spec : {M : Type 1} → statement M
 +backwarding-move+forwarding-move-spec =
     close μ-backwarding-move μ-forwarding-move
-    (λ t. backwarding-move-lts.spec (backwarding-calls t) (backwarding-move-at t) backwarding-move.Post
-    (backwarding-move-mul-look-up t)
-    (backwarding-move-add-look-up t)
-    (backwarding-move-shared-slice-read-look-up t)
+    (λ t. backwarding-lts.spec (backwarding-calls t) (backwarding-move-at t) backwarding-move.Post
+    (backwarding-move-mul-back t)
+    (backwarding-move-add-back t)
+    (backwarding-move-shared-slice-read-back t)
     (backwarding-move-look-up-requires t)
-    (backwarding-move-enum-known-v t)
+    (backwarding-move-enum-known-node t)
     (backwarding-move-enum-told t)
     (backwarding-move-returns t)
-    (backwarding-move-fails-requires t)
+    (backwarding-move-blocked-requires t)
     (backwarding-move-returns-2 t)
     (backwarding-move-add-next t)
     (backwarding-move-cast-trace t)
     (backwarding-move-slice-write-trace t)
-    (backwarding-move-mul-forwarding-move t)
-    (backwarding-move-add-forwarding-move t)
-    (backwarding-move-shared-slice-read-forwarding-move t)
-    (backwarding-move-sub-forwarding-move t)
+    (backwarding-move-mul-entry t)
+    (backwarding-move-add-entry t)
+    (backwarding-move-shared-slice-read-entry t)
+    (backwarding-move-moved-requires t)
     (backwarding-move-forwarding-move-requires t)
     (backwarding-move-same-length t)
     (backwarding-move-returns-3 t))
-    λ t. forwarding-move-lts.spec (forwarding-calls t) (forwarding-move-at t) forwarding-move.Post
+    λ t. forwarding-lts.spec (forwarding-calls t) (forwarding-move-at t) forwarding-move.Post
     (forwarding-move-returns t)
     (forwarding-move-returns-2 t)
     (forwarding-move-look-up-requires t)
-    (forwarding-move-enum-known-v t)
+    (forwarding-move-enum-known-node t)
     (forwarding-move-enum-told t)
+    (forwarding-move-lost-ending-requires t)
     (forwarding-move-returns-3 t)
-    (forwarding-move-fails-requires t)
+    (forwarding-move-blocked-requires t)
     (forwarding-move-backwarding-move-requires t)
     (forwarding-move-same-length t)
     (forwarding-move-returns-4 t)
     (forwarding-move-add-next t)
     (forwarding-move-cast-trace t)
     (forwarding-move-slice-write-trace t)
-    (forwarding-move-mul-forwarding-move t)
-    (forwarding-move-add-forwarding-move t)
-    (forwarding-move-shared-slice-read-forwarding-move t)
-    (forwarding-move-sub-forwarding-move t)
+    (forwarding-move-mul-entry t)
+    (forwarding-move-add-entry t)
+    (forwarding-move-shared-slice-read-entry t)
+    (forwarding-move-moved-requires t)
     (forwarding-move-forwarding-move-requires t)
     (forwarding-move-same-length-2 t)
     (forwarding-move-returns-5 t)

@@ -1,60 +1,80 @@
--- The source stands first in the trace, and the moves go on from there.
-use Prim.Native.Nat.{_+_, _*_, _≤_}
-use mathlib.Core.Path.{_∙_}
+-- The source is stored first, and the forwarding move goes on from there with the routing entry.
+use Prim.Native.Nat.{ℕ, _+_, _*_, _^_, _<_, _≤_}
+use mathlib.Core.Path.{_≡_, refl, _∙_}
 use native.Mathlib.Omega.{arith}
-use borrow.Author.Needs.{needs}
 use lib.ListN.{length, length-set}
+use Rattle.graph.specs.Walk.{walkOf}
+use Rattle.net.specs.Limits.{mostNodes}
+use Rattle.walk.specs.Lent.{tablesFor}
+use Rattle.walk.specs.Walk.{courseOf}
+use Rattle.walk.specs.inner.Ground.{Ground}
+use Rattle.walk.specs.inner.Moves.{courseFrom, lostEnding}
 use Rattle.walk.proofs.Below.{row-within}
-use Rattle.walk.proofs.Trails.{went-from}
+use Rattle.walk.proofs.Grounds.{row-fits, place-fits, place-within}
+use Rattle.walk.proofs.Courses.{went-from}
 use Rattle.walk.proofs.moves.walk_from.Statement.{statement}
 use Rattle.walk.proofs.moves.walk_from.Tie as tie
 
--- the source's row is in the routing table
-in-table : (c : tie.Start) → c .args .s * c .args .n + c .args .n ≤ length (c .args .routing .now)
-in-table c = row-within _ _ _ _ (c .pre .0 .0) (c .pre .1 .1 .0)
+-- the source's row of the routing table
+row : (c : tie.Start) → c .args .source .0 * c .args .n + c .args .n ≤ length (c .args .routing .now)
+row c = row-within (c .args .n) (c .args .n) (c .args .source .0) _ (c .pre .source) (c .pre .ready .long .for-routing)
+
+table : (c : tie.Start) → length (c .args .routing .now) < 2 ^ 64
+table c = omega arith
+
+few-nodes : (c : tie.Start) → c .args .n ≤ mostNodes
+few-nodes c = c .pre .ready .network .few-nodes
+
+-- the network and tables that are lent
+abbrev ground : (c : tie.Start) → Ground (c .args .n) (c .args .map .now) (c .args .forwarding .now) (c .args .backwarding .now)
+ground c = record { rows = _; tables = _; ready = c .pre .ready; nodes = refl; forwards = refl; backwards = refl }
 
 cast-trace : tie.Need-cast-trace
-cast-trace c = search needs
+cast-trace c =
+    let start = c .before .before .before .before .before .before .before .before in
+    omega (arith, start .pre .source, few-nodes start)
 
 slice-write-trace : tie.Need-slice-write-trace
-slice-write-trace c = search needs
+slice-write-trace c = omega (arith, c .before .before .before .before .before .before .before .before .pre .room)
 
-mul-forwarding-move : tie.Need-mul-forwarding-move
-mul-forwarding-move c = omega (arith, in-table (c .before .before .before .before .before))
+mul-t17 : tie.Need-mul-t17
+mul-t17 c =
+    let start = c .before .before .before .before .before .before .before .before in
+    row-fits _ _ _ (row start) (table start)
 
-add-forwarding-move : tie.Need-add-forwarding-move
-add-forwarding-move c = omega (arith, in-table (c .before .before .before .before .before))
+add-t18 : tie.Need-add-t18
+add-t18 c =
+    let start = c .before .before .before .before .before .before .before .before .before in
+    place-fits _ _ _ _ (row start) (start .pre .destination) (table start)
 
-shared-slice-read-forwarding-move : tie.Need-shared-slice-read-forwarding-move
-shared-slice-read-forwarding-move c = omega (arith, in-table (c .before .before .before .before .before .before))
+shared-slice-read-t15 : tie.Need-shared-slice-read-t15
+shared-slice-read-t15 c =
+    let start = c .before .before .before .before .before .before .before .before .before .before in
+    place-within _ _ _ _ (row start) (start .pre .destination)
 
 forwarding-move-requires : tie.Need-forwarding-move-requires
 forwarding-move-requires c κs =
-    let start = c .before .before .before .before .before .before .before in (
-      (omega (arith, start .pre .0), start .pre .0 .1, start .pre .0 .2, start .pre .0 .3),
-      (start .pre .1 .0, omega (arith, start .pre .1 .1 .1, length-set (start .args .trace .now) 0 (start .args .s))),
-    )
+    let start = c .before .before .before .before .before .before .before .before .before .before .before in
+    record {
+      ground = ground start;
+      destination = start .pre .destination;
+      node = start .pre .source;
+      room = omega (arith, start .pre .room, length-set (start .args .trace .now) 0 (start .args .source .0));
+    }
 
 same-length : tie.Need-same-length
 same-length c =
-    c .before .before .forwarding-move .kept .1 .1 .1 .1 .1 .1 .1 .1 .1 .1 .1 .0
-    ∙ length-set (c .before .before .before .before .before .before .before .before .before .before .args .trace .now) 0
-    (c .before .before .before .before .before .before .before .before .before .before .args .s)
+    let start = c .before .before .before .before .before .before .before .before .before .before .before .before .before .before in
+    c .before .before .forwarding-move .kept .1 .1 .1 .1 .1 .1 .0 ∙ length-set (start .args .trace .now) 0 (start .args .source .0)
 
 returns : tie.Need-returns
+unfolding courseOf walkOf courseFrom lostEnding tablesFor
 returns c =
-    went-from _ _ (omega (arith, c .before .before .before .before .before .before .before .before .before .before .pre .1 .1 .1))
-    (c .before .before .forwarding-move .ensures)
+    let start = c .before .before .before .before .before .before .before .before .before .before .before .before .before .before in
+    went-from _ (start .args .source .0) (start .args .trace .now) (omega (arith, start .pre .room))
+    (c .before .before .forwarding-move .ensures (ground start))
 
 pub walk-from-spec : {M : Type 1} → statement M
 walk-from-spec =
     tie.close
-    (tie.spec
-    cast-trace
-    slice-write-trace
-    mul-forwarding-move
-    add-forwarding-move
-    shared-slice-read-forwarding-move
-    forwarding-move-requires
-    same-length
-    returns)
+    (tie.spec cast-trace slice-write-trace mul-t17 add-t18 shared-slice-read-t15 forwarding-move-requires same-length returns)

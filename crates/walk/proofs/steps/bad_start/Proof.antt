@@ -1,7 +1,7 @@
--- A start is tested by its node; an arrival has none.
+-- At a start the node is held against the node count; on arrival no node is asked for.
 use mathlib.Core.Path.{sym}
-use Rattle.walk.proofs.Asking.{start-at, arrival-starts-none}
 use borrow.Author.Needs.{needs}
+use Rattle.walk.proofs.Asking.{start-at, arrival-starts-none}
 use Rattle.walk.proofs.steps.bad_start.Statement.{statement}
 use Rattle.walk.proofs.steps.bad_start.Tie as tie
 

@@ -1,100 +1,123 @@
--- The refusals in the order of the definition; then the step at the start node or at the head of the interface, which is the step by
--- the entries as the look-up is the interface between two nodes.
-use Prim.Native.Nat.{_<_, _*_}
-use mathlib.Core.Path.{_≡_, sym, _∙_}
+-- One verdict and one branch. Where nothing is refused, the step is made at the start node with its routing entry, or at the head of the
+-- interface entered with its forwarding entry.
+use Prim.Native.Nat.{ℕ, _+_, _*_, _^_, _<_, _≤_}
+use mathlib.Core.Path.{_≡_, refl, sym, ap, _∙_}
+use mathlib.Core.List.{List}
 use native.Mathlib.Omega.{arith}
 use borrow.Author.Needs.{needs}
 use lib.ListN.{length}
-use Rattle.net.specs.Check.{Accepted}
+use Rattle.graph.specs.Network.{head}
 use Rattle.net.specs.Refusals.{accepted}
-use Rattle.walk.specs.Step.{askedNumber, stepOf, stepAnswer}
-use Rattle.walk.proofs.Asking.{asked-start, asked-arrival, asked-destination}
-use Rattle.walk.proofs.Below.{row-within, rows-few}
-use Rattle.walk.proofs.Lookup.{head-below, reaches}
+use Rattle.net.specs.Rows.{Rows, networkOf}
+use Rattle.net.specs.Check.{Accepted}
+use Rattle.net.proofs.Rows.{head-of}
+use Rattle.tables.specs.Lent.{LentTables, LongEnough}
+use Rattle.walk.specs.Lent.{lentVerdict}
+use Rattle.walk.specs.Step.{stepNumber}
+use Rattle.walk.specs.inner.Neighbours.{Neighbours}
+use Rattle.walk.specs.inner.Ground.{Ground}
+use Rattle.walk.specs.declared.question.Question.{Question}
+use Rattle.walk.proofs.Asking.{asked-destination, asked-start, asked-arrival}
+use Rattle.walk.proofs.Below.{row-within}
+use Rattle.walk.proofs.Grounds.{row-fits, place-fits, place-within}
+use Rattle.walk.proofs.Lookup.{head-below}
 use Rattle.walk.proofs.Stepping.{start-steps, arrival-steps}
-use Rattle.walk.proofs.Verdicts.{Ready, ready, network-accepted, step-network-refused, step-question-refused, step-tables-refused, step-taken}
+use Rattle.walk.proofs.Verdicts.{lent-network, lent-long, question-taken, step-refused, step-taken}
 use Rattle.walk.proofs.steps.step.Statement.{statement}
 use Rattle.walk.proofs.steps.step.Tie as tie
 
--- the places where the network, the question and the tables have been taken, from the last back to the start
-abbrev question-taken : tie.Else3 → tie.Else2
-question-taken c = c .before .before .before .before .before
+-- where the question has been judged
+module _ (c : tie.After-lent-verdict) where
+  abbrev start : tie.Start
+  start = c .before .before .before .before .before .before .before .before
 
-abbrev network-taken : tie.Else2 → tie.Else1
-network-taken c = c .before .before
+  abbrev R : Rows
+  R = let a = start .args in record { nodes = a .n; low = a .low .now; high = a .high .now; weight = a .weight .now }
 
-abbrev start : tie.Else1 → tie.Start
-start c = c .before .before .before .before .before .before .before .before .before
+  abbrev T : LentTables
+  T = let a = start .args in record { routing = a .routing .now; forwarding = a .forwarding .now; backwarding = a .backwarding .now }
 
--- what the tests leave
-network : (c : tie.Else1) → let a = start c .args in Accepted (a .n) (a .low .now) (a .high .now) (a .weight .now)
-network c = network-accepted _ _ _ _ (c .before .before .check-network .ensures) (c .if1 .left)
+  abbrev question : Question
+  question = record { destination = start .args .destination; failure = start .args .failure }
 
-question : (c : tie.Else2)
-    → let a = start (network-taken c) .args in askedNumber (a .n) (length (a .low .now)) (a .asked) (a .destination .0) (a .failure) ≡ accepted
-question c = sym (c .before .asked-verdict .ensures) ∙ c .if2 .left
+  judged : c .lent-verdict .result ≡ lentVerdict R T (stepNumber (R .nodes) (length (R .low)) (start .args .asked) question)
+  judged = c .lent-verdict .ensures ∙ ap (lentVerdict R T) (c .before .step-number .ensures)
 
-known : (c : tie.Else3)
-    → let a = start (network-taken (question-taken c)) .args in
-    Ready (a .n) (a .low .now) (a .high .now) (a .weight .now) (a .routing .now) (a .forwarding .now) (a .backwarding .now)
-    (c .before .before .before .before .neighbours .result)
-known c =
-    let at = network-taken (question-taken c) in
-    ready _ _ _ _ (at .before .before .check-network .ensures) (at .if1 .left)
-    (c .before .before .before .before .neighbours .ensures) (c .before .before .tables-verdict .ensures) (c .if3 .left)
+-- and nothing is refused
+module _ (c : tie.Else1) where
+  abbrev at : tie.After-lent-verdict
+  at = c .before .before
 
-destination : (c : tie.Else3) → let a = start (network-taken (question-taken c)) .args in a .destination .0 < a .n
-destination c = asked-destination _ _ _ _ _ (question (question-taken c))
+  network : Accepted (R at)
+  network = lent-network (R at) (T at) _ (judged at) (c .if1 .left)
 
-start-below : (c : tie.After-known-told)
-    → c .before .asked .given .0 .0 .0 < start (network-taken (question-taken (c .before .before .before))) .args .n
-start-below c = asked-start _ _ _ _ _ (question (question-taken (c .before .before .before))) _ (c .before .asked .given .1)
+  long : LongEnough (R at .nodes) (length (R at .low)) (T at)
+  long = lent-long (R at) (T at) _ (judged at) (c .if1 .left)
 
-arrival-below : (c : tie.After-known-told2)
-    → c .before .asked2 .given .0 .0 .0 < 2 * length (start (network-taken (question-taken (c .before .before .before))) .args .low .now)
-arrival-below c = asked-arrival _ _ _ _ _ (question (question-taken (c .before .before .before))) _ (c .before .asked2 .given .1)
+  taken : stepNumber (R at .nodes) (length (R at .low)) (start at .args .asked) (question at) ≡ accepted
+  taken = question-taken (R at) (T at) _ (judged at) (c .if1 .left)
 
-taken : (c : tie.Else3)
-    → let a = start (network-taken (question-taken c)) .args in
-    stepOf (a .n) (a .low .now) (a .high .now) (a .routing .now) (a .forwarding .now) (a .backwarding .now)
-    (a .asked) (a .destination .0) (a .failure)
-    ≡ stepAnswer (a .n) (a .low .now) (a .high .now) (a .weight .now) (a .routing .now) (a .forwarding .now) (a .backwarding .now)
-    (a .asked) (a .destination .0) (a .failure)
-taken c =
-    let asked = question-taken c in
-    let at = network-taken asked in
-    step-taken _ _ _ _ _ _ _ _ _ _ (at .before .before .check-network .ensures) (at .if1 .left) (asked .before .asked-verdict .ensures) (asked .if2 .left)
-    (c .before .before .tables-verdict .ensures) (c .if3 .left)
+  destination : question at .destination .0 < R at .nodes
+  destination = asked-destination _ _ _ (question at) taken
 
-check-network-requires : tie.Need-check-network-requires
-check-network-requires c κs = search needs
+  abbrev ground : (map : List ℕ) → Neighbours (R at) map → Ground (R at .nodes) map (T at .forwarding) (T at .backwarding)
+  ground map neighbours =
+      record {
+        rows = R at;
+        tables = T at;
+        ready = record { network = network; neighbours = neighbours; long = long };
+        nodes = refl;
+        forwards = refl;
+        backwards = refl;
+      }
+
+  routing-table : length (T at .routing) < 2 ^ 64
+  routing-table = omega arith
+
+  forwarding-table : length (T at .forwarding) < 2 ^ 64
+  forwarding-table = omega arith
+
+-- asked at a start node
+module _ (c : tie.After-map) where
+  abbrev begun : tie.Else1
+  begun = c .before .before .before .before .before
+
+  abbrev node : ℕ
+  node = c .before .before .asked .given .0 .0 .0
+
+  node-below : node < R (at begun) .nodes
+  node-below = asked-start _ _ _ (question (at begun)) (taken begun) _ (c .before .before .asked .given .1)
+
+  routing-row : node * R (at begun) .nodes + R (at begun) .nodes ≤ length (T (at begun) .routing)
+  routing-row = row-within _ _ node _ node-below (long begun .for-routing)
+
+-- asked on arrival
+module _ (c : tie.After-map2) where
+  abbrev entered : tie.Else1
+  entered = c .before .before .before .before .before
+
+  abbrev interface : ℕ
+  interface = c .before .before .asked2 .given .0 .0 .0
+
+  interface-below : interface < 2 * length (R (at entered) .low)
+  interface-below = asked-arrival _ _ _ (question (at entered)) (taken entered) _ (c .before .before .asked2 .given .1)
+
+  forwarding-row : interface * R (at entered) .nodes + R (at entered) .nodes ≤ length (T (at entered) .forwarding)
+  forwarding-row = row-within _ _ interface _ interface-below (long entered .for-forwarding)
+
+step-number-requires : tie.Need-step-number-requires
+step-number-requires c κs = search needs
+
+lent-verdict-requires : tie.Need-lent-verdict-requires
+lent-verdict-requires c κs = search needs
 
 returns : tie.Need-returns
-returns c = step-network-refused _ _ _ _ _ _ _ _ _ _ (c .before .before .check-network .ensures) (c .if1 .taken)
-
-asked-verdict-requires : tie.Need-asked-verdict-requires
-asked-verdict-requires c κs = search needs
-
-returns-2 : tie.Need-returns-2
-returns-2 c =
+returns c =
     let at = c .before .before in
-    step-question-refused _ _ _ _ _ _ _ _ _ _ (at .before .before .check-network .ensures) (at .if1 .left) (c .before .asked-verdict .ensures) (c .if2 .taken)
+    step-refused (R at) (T at) (start at .args .asked) (question at) (judged at) (c .if1 .taken)
 
 neighbours-requires : tie.Need-neighbours-requires
-neighbours-requires c κs = network (network-taken c)
-
-slice-aggregate-tables-verdict : tie.Need-slice-aggregate-tables-verdict
-slice-aggregate-tables-verdict c = search needs
-
-tables-verdict-requires : tie.Need-tables-verdict-requires
-tables-verdict-requires c κs = (network (network-taken (c .before .before)), c .before .neighbours .ensures)
-
-returns-3 : tie.Need-returns-3
-returns-3 c =
-    let asked = c .before .before .before .before .before in
-    let at = network-taken asked in
-    step-tables-refused _ _ _ _ _ _ _ _ _ _ (at .before .before .check-network .ensures) (at .if1 .left) (asked .before .asked-verdict .ensures) (asked .if2 .left)
-    (c .before .before .tables-verdict .ensures) (c .if3 .taken)
+neighbours-requires c κs = network c
 
 enum-known-asked : tie.Need-enum-known-asked
 enum-known-asked c = search needs
@@ -103,136 +126,85 @@ slice-aggregate-step-at : tie.Need-slice-aggregate-step-at
 slice-aggregate-step-at c = search needs
 
 mul-step-at : tie.Need-mul-step-at
-mul-step-at c =
-    let at = c .before .before .before .before in
-    let few = known at .network .few-nodes in
-    omega (
-      arith,
-      destination at,
-      few,
-      rows-few (c .before .before .asked .given .0 .0 .0) _
-          (omega (arith, start-below (c .before), known at .network .few-nodes)) few,
-    )
+mul-step-at c = row-fits _ _ _ (routing-row (c .before)) (routing-table (begun (c .before)))
 
 add-step-at : tie.Need-add-step-at
 add-step-at c =
-    let at = c .before .before .before .before in
-    let few = known at .network .few-nodes in
-    omega (
-      arith,
-      destination at,
-      few,
-      rows-few (c .before .before .asked .given .0 .0 .0) _
-          (omega (arith, start-below (c .before), known at .network .few-nodes)) few,
-    )
+    place-fits _ _ _ _ (routing-row (c .before)) (destination (begun (c .before))) (routing-table (begun (c .before)))
 
 shared-slice-read-step-at : tie.Need-shared-slice-read-step-at
-shared-slice-read-step-at c =
-    let at = c .before .before .before .before .before in
-    omega (arith, destination at, row-within (start (network-taken (question-taken at)) .args .n) _ _ _ (start-below (c .before .before)) (known at .routes))
+shared-slice-read-step-at c = place-within _ _ _ _ (routing-row (c .before .before)) (destination (begun (c .before .before)))
 
 step-at-requires : tie.Need-step-at-requires
 step-at-requires c κs =
-    let at = c .before .before .before .before .before in (
-      (
-        omega (arith, start-below (c .before .before), known at .network .few-nodes),
-        destination at,
-        known at .network .few-nodes,
-        known at .map .whole,
-      ),
-      reaches _ _ _ _ _ (known at .network) (known at .map) _ (known at .backwards),
-    )
+    let at = c .before .before in
+    record {
+      ground = ground (begun at) _ (at .before .before .before .before .neighbours .ensures);
+      destination = destination (begun at);
+      node = node-below at;
+    }
 
 enum-known-asked-2 : tie.Need-enum-known-asked-2
 enum-known-asked-2 c = search needs
 
-head-of-requires : tie.Need-head-of-requires
-head-of-requires c κs = search needs
-
 slice-aggregate-step-at-2 : tie.Need-slice-aggregate-step-at-2
 slice-aggregate-step-at-2 c = search needs
 
+head-of-requires : tie.Need-head-of-requires
+head-of-requires c κs = search needs
+
 mul-step-at-2 : tie.Need-mul-step-at-2
-mul-step-at-2 c =
-    let at = c .before .before .before .before .before in
-    let few = known at .network .few-nodes in
-    omega (
-      arith,
-      destination at,
-      few,
-      rows-few (c .before .before .before .asked2 .given .0 .0 .0) _
-          (omega (arith, arrival-below (c .before .before), known at .network .few-links)) few,
-    )
+mul-step-at-2 c = row-fits _ _ _ (forwarding-row (c .before .before)) (forwarding-table (entered (c .before .before)))
 
 add-step-at-2 : tie.Need-add-step-at-2
 add-step-at-2 c =
-    let at = c .before .before .before .before .before in
-    let few = known at .network .few-nodes in
-    omega (
-      arith,
-      destination at,
-      few,
-      rows-few (c .before .before .before .asked2 .given .0 .0 .0) _
-          (omega (arith, arrival-below (c .before .before), known at .network .few-links)) few,
-    )
+    place-fits _ _ _ _ (forwarding-row (c .before .before)) (destination (entered (c .before .before)))
+    (forwarding-table (entered (c .before .before)))
 
 shared-slice-read-step-at-2 : tie.Need-shared-slice-read-step-at-2
 shared-slice-read-step-at-2 c =
-    let at = c .before .before .before .before .before .before in
-    omega (
-      arith,
-      destination at,
-      row-within (start (network-taken (question-taken at)) .args .n) _ _ _ (arrival-below (c .before .before .before))
-          (known at .forwards),
-    )
+    place-within _ _ _ _ (forwarding-row (c .before .before .before)) (destination (entered (c .before .before .before)))
+
+-- the node entered is the head of the interface
+head-node : (c : tie.After-head-of)
+    → c .head-of .result .0 ≡ head (networkOf (R (at (entered (c .before))))) (interface (c .before))
+head-node c = c .head-of .ensures ∙ sym (head-of (R (at (entered (c .before)))) (interface (c .before)))
 
 step-at-requires-2 : tie.Need-step-at-requires-2
 step-at-requires-2 c κs =
-    let at = c .before .before .before .before .before .before in (
-      (
-        omega (
-          arith,
-          c .before .before .head-of .ensures,
-          head-below _ _ _ _ (known at .network) _
-              (arrival-below (c .before .before .before)),
-          known at .network .few-nodes,
-        ),
-        destination at,
-        known at .network .few-nodes,
-        known at .map .whole,
-      ),
-      reaches _ _ _ _ _ (known at .network) (known at .map) _ (known at .backwards),
-    )
+    let map = c .before .before .before in
+    let at = entered map in
+    record {
+      ground = ground at _ (map .before .before .before .before .neighbours .ensures);
+      destination = destination at;
+      node = rw (head-node (c .before .before)) (head-below _ (network at) (interface map) (interface-below map));
+    }
 
-returns-4 : tie.Need-returns-4
-returns-4 c =
-    c .step-at .ensures
-    ∙ start-steps _ _ _ _ _ (known (c .before .before .before .before .before .before) .network)
-    (known (c .before .before .before .before .before .before) .map) _ _ _ _ _ _ _ (c .before .before .before .before .asked .given .1)
-    (start-below (c .before .before .before))
-    ∙ taken (c .before .before .before .before .before .before)
+returns-2 : tie.Need-returns-2
+returns-2 c =
+    let map = c .before .before .before in
+    let fine = begun map in
+    c .step-at .ensures (ground fine _ (map .before .before .before .before .neighbours .ensures))
+    ∙ start-steps (R (at fine)) (T (at fine)) _ (question (at fine)) _ (map .before .before .asked .given .1)
+    ∙ step-taken (R (at fine)) (T (at fine)) _ (question (at fine)) (judged (at fine)) (fine .if1 .left)
 
-returns-5 : tie.Need-returns-5
-returns-5 c =
-    c .step-at2 .ensures
-    ∙ arrival-steps _ _ _ _ _ (known (c .before .before .before .before .before .before .before) .network)
-    (known (c .before .before .before .before .before .before .before) .map) _ _ _ _ _ _ _
-    (c .before .before .before .before .before .asked2 .given .1) (arrival-below (c .before .before .before .before))
-    (c .before .before .before .head-of .ensures)
-    ∙ taken (c .before .before .before .before .before .before .before)
+returns-3 : tie.Need-returns-3
+returns-3 c =
+    let map = c .before .before .before .before in
+    let fine = entered map in
+    c .step-at2 .ensures (ground fine _ (map .before .before .before .before .neighbours .ensures))
+    ∙ arrival-steps (R (at fine)) (T (at fine)) _ (question (at fine)) _ _ (map .before .before .asked2 .given .1)
+    (head-node (c .before .before .before))
+    ∙ step-taken (R (at fine)) (T (at fine)) _ (question (at fine)) (judged (at fine)) (fine .if1 .left)
 
 pub step-spec : {M : Type 1} → statement M
 step-spec =
     tie.close
     (tie.spec
-    check-network-requires
+    step-number-requires
+    lent-verdict-requires
     returns
-    asked-verdict-requires
-    returns-2
     neighbours-requires
-    slice-aggregate-tables-verdict
-    tables-verdict-requires
-    returns-3
     enum-known-asked
     slice-aggregate-step-at
     mul-step-at
@@ -240,11 +212,11 @@ step-spec =
     shared-slice-read-step-at
     step-at-requires
     enum-known-asked-2
-    head-of-requires
     slice-aggregate-step-at-2
+    head-of-requires
     mul-step-at-2
     add-step-at-2
     shared-slice-read-step-at-2
     step-at-requires-2
-    returns-4
-    returns-5)
+    returns-2
+    returns-3)

@@ -6,19 +6,20 @@ use mathlib.Core.Bool.{Bool, true, false}
 use mathlib.Core.Path.{_≡_, refl, ap, _∙_}
 use mathlib.Core.Logic.{inl, inr, _↔_}
 use mathlib.Core.List.{List}
-use mathlib.Core.Option.{Option, none, some}
 use native.Mathlib.Decide.{ℕ-discrete}
 use native.Mathlib.Omega.{arith}
 use borrow.Author.Tests.{eq-eqb, ne-eqb, eqb-true}
 use lib.ListN.{length, getD}
 use Rattle.graph.specs.Network.{Network, tail, head}
-use Rattle.graph.proofs.Interfaces.{interface-below}
-use Rattle.net.specs.Check.{both, Accepted}
+use Rattle.graph.specs.Entries.{Hop, here, onward, nowhere}
+use Rattle.net.specs.Choice.{both}
+use Rattle.net.specs.Rows.{Rows, networkOf}
+use Rattle.net.specs.Check.{Accepted}
 use Rattle.net.specs.Entry.{hereByte, nowhereByte}
-use Rattle.net.specs.Rows.{networkOf, tailOf, headOf}
-use Rattle.walk.specs.Lent.{interfaceTo, Neighbour, Passes, TablePasses, TablesPass, allBelow, isSome, bytePasses, tablePasses}
-use Rattle.walk.specs.Lent.{tablesPass}
-use Rattle.walk.proofs.Lookup.{interface-found, interface-is, link-below}
+use Rattle.net.proofs.Rows.{interface-present, interface-row}
+use Rattle.tables.specs.Lent.{LentTables}
+use Rattle.walk.specs.Lent.{hopAt, Neighbour, Passes, TablePasses, TablesPass, allBelow, leadsOn, bytePasses, tablePasses, tablesPass}
+use Rattle.walk.proofs.Hops.{hop-below, hop-leaves, hop-enters, hop-is}
 
 both-exactly : (a b : Bool) → (both a b ≡ true) ↔ ((a ≡ true) × (b ≡ true))
 both-exactly true b = (λ e. (refl, e), λ e. e .1)
@@ -39,25 +40,30 @@ all-exactly (suc count) test = (
       (all-exactly count test .1 (λ k h. all k (omega arith)), all count (omega arith)),
 )
 
-module _ (n : ℕ) (low high weight : List ℕ) (A : Accepted n low high weight) where
+module _ (R : Rows) (A : Accepted R) where
+  open Rows R using (nodes as n, low)
+
   abbrev N : Network
-  N = networkOf n low high weight
+  N = networkOf R
 
-  -- an interface is found exactly if the node is a neighbour
-  neighbour-exactly : (i v : ℕ) → (isSome (interfaceTo low high i v) ≡ true) ↔ Neighbour N i v
-  unfolding isSome tail head
-  neighbour-exactly i v = (go (interfaceTo low high i v) refl, back)
+  -- a byte leads on exactly if it is a neighbour
+  neighbour-exactly : (i v : ℕ) → (leadsOn (hopAt R i v) ≡ true) ↔ Neighbour N i v
+  unfolding leadsOn
+  neighbour-exactly i v = (go (hopAt R i v) refl, back)
     where
-      go : (o : Option ℕ) → interfaceTo low high i v ≡ o → isSome o ≡ true → Neighbour N i v
-      go none e q = absurd (let z : _≡_ {A = ℕ} 0 1 = cc in omega arith)
-      go (some f) e q =
-          let (f-below, t, h) = interface-found low high i v e in
-          record { by = f; present = link-below f (length low) f-below; from = t; to = h }
+      go : (h : Hop) → hopAt R i v ≡ h → leadsOn h ≡ true → Neighbour N i v
+      go here e q = absurd (let z : _≡_ {A = ℕ} 0 1 = cc in omega arith)
+      go nowhere e q = absurd (let z : _≡_ {A = ℕ} 0 1 = cc in omega arith)
+      go (onward f) e q =
+          record { by = f; present = interface-present R f (hop-below R i v e); from = hop-leaves R i v e; to = hop-enters R i v e }
 
-      back : Neighbour N i v → isSome (interfaceTo low high i v) ≡ true
-      back b = rw (interface-is n low high weight A (b .by) i v (interface-below (b .by) (length low) (b .present)) (b .from) (b .to))
+      back : Neighbour N i v → leadsOn (hopAt R i v) ≡ true
+      back b =
+          let below = interface-row R (b .by) (b .present) in
+          let named : hopAt R i v ≡ onward (b .by) = rw (b .to) at (hop-is R A (b .by) i below (b .from)) in
+          rw named
 
-  byte-exactly : (i d byte : ℕ) → (bytePasses low high i d byte ≡ true) ↔ Passes N i d byte
+  byte-exactly : (i d byte : ℕ) → (bytePasses R i d byte ≡ true) ↔ Passes N i d byte
   unfolding bytePasses
   byte-exactly i d byte =
       elim (ℕ-discrete d i) [
@@ -78,7 +84,7 @@ module _ (n : ℕ) (low high weight : List ℕ) (A : Accepted n low high weight)
       ]
 
   table-exactly : (rows : ℕ) (deciding : ℕ → ℕ) (table : List ℕ)
-      → (tablePasses n low high rows deciding table ≡ true) ↔ TablePasses N rows deciding table
+      → (tablePasses R rows deciding table ≡ true) ↔ TablePasses N rows deciding table
   unfolding tablePasses
   table-exactly rows deciding table = (
     λ e row d row-below d-below.
@@ -94,38 +100,37 @@ module _ (n : ℕ) (low high weight : List ℕ) (A : Accepted n low high weight)
       byte row d = getD table (row * n + d) 0
 
       passes : ℕ → ℕ → Bool
-      passes row d = bytePasses low high (deciding row) d (byte row d)
+      passes row d = bytePasses R (deciding row) d (byte row d)
 
       row-passes : ℕ → Bool
       row-passes row = allBelow n (passes row)
 
-  pub passes-exactly : (routing forwarding backwarding : List ℕ)
-      → (tablesPass n low high routing forwarding backwarding ≡ true) ↔ TablesPass N (length low) routing forwarding backwarding
-  unfolding tablesPass head tail
-  passes-exactly routing forwarding backwarding = (
+  pub passes-exactly : (T : LentTables) → (tablesPass R T ≡ true) ↔ TablesPass N T
+  unfolding tablesPass
+  passes-exactly T = (
     λ e.
         let (r, rest) = both-exactly routes (both forwards backwards) .0 e in
         let (f, b) = both-exactly forwards backwards .0 rest in
         record {
-          routes = table-exactly n (λ i. i) routing .0 r;
-          forwards = table-exactly (2 * length low) (headOf low high) forwarding .0 f;
-          backwards = table-exactly (2 * length low) (tailOf low high) backwarding .0 b;
+          routes = table-exactly n (λ i. i) (T .routing) .0 r;
+          forwards = table-exactly (2 * length low) (head N) (T .forwarding) .0 f;
+          backwards = table-exactly (2 * length low) (tail N) (T .backwarding) .0 b;
         },
     λ p.
         both-exactly routes (both forwards backwards) .1 (
-          table-exactly n (λ i. i) routing .1 (p .routes),
+          table-exactly n (λ i. i) (T .routing) .1 (p .routes),
           both-exactly forwards backwards .1 (
-            table-exactly (2 * length low) (headOf low high) forwarding .1 (p .forwards),
-            table-exactly (2 * length low) (tailOf low high) backwarding .1 (p .backwards),
+            table-exactly (2 * length low) (head N) (T .forwarding) .1 (p .forwards),
+            table-exactly (2 * length low) (tail N) (T .backwarding) .1 (p .backwards),
           ),
         ),
   )
     where
       routes : Bool
-      routes = tablePasses n low high n (λ i. i) routing
+      routes = tablePasses R n (λ i. i) (T .routing)
 
       forwards : Bool
-      forwards = tablePasses n low high (2 * length low) (headOf low high) forwarding
+      forwards = tablePasses R (2 * length low) (head N) (T .forwarding)
 
       backwards : Bool
-      backwards = tablePasses n low high (2 * length low) (tailOf low high) backwarding
+      backwards = tablePasses R (2 * length low) (tail N) (T .backwarding)
