@@ -11,13 +11,15 @@ use lib.ListN.{length, set, replicate}
 use lib.Seq.{set-at}
 use Rattle.net.specs.Limits.{mostNodes, mostLinks}
 use Rattle.net.specs.Refusals.{accepted}
-use Rattle.net.specs.declared.interface.Failure.{Failure}
-use Rattle.net.specs.declared.interface.Failure.the-variants.{Nothing, One}
-use Rattle.report.specs.Line.{noLine}
+use Rattle.net.specs.Rows.{Rows}
+use Rattle.net.specs.declared.failure.Failure.{Failure}
+use Rattle.net.specs.declared.failure.Failure.the-variants.{Nothing, One}
+use Rattle.tables.specs.Lent.{LentTables}
+use Rattle.report.specs.Line.{noLine, lineOf}
 use Rattle.report.specs.Lines.{linkLines, linesOver, deliveredOver, droppedOver, linesHeld}
-use Rattle.report.specs.Counting.{trailAt, lineOverTrails}
+use Rattle.report.specs.inner.Counting.{AtMostWalks}
 use Rattle.report.specs.declared.counting.Line.{Line}
-use Rattle.report.proofs.Walks.{trail-at-short, line-fits}
+use Rattle.report.proofs.Walks.{line-fits}
 
 delivered-append : (a b : List Line) → deliveredOver (a ++ b) ≡ deliveredOver a + deliveredOver b
 unfolding deliveredOver
@@ -136,27 +138,21 @@ module _ (line : Failure → Line) where
         let (d, e) = fits Nothing in
         (omega (arith, suc-mul k each), omega (arith, suc-mul k each))
 
--- the line of a failure as the code counts it
-module _ (map : List ℕ) (n : ℕ) (routing forwarding backwarding : List ℕ) where
-  abbrev pub lineBy : Failure → Line
-  lineBy failure = lineOverTrails n (trailAt map n routing forwarding backwarding failure)
+-- so they fit, each line being of at most as many walks as there are ordered pairs of nodes
+module _ (R : Rows) (T : LentTables) (few : R .nodes ≤ mostNodes) {k : ℕ} {lines : List Line} {delivered dropped : ℕ}
+    (before : HeldUpTo (lineOf R T) k lines delivered dropped) where
+  pub held-fits : (delivered ≤ suc k * (mostNodes * mostNodes)) × (dropped ≤ suc k * (mostNodes * mostNodes))
+  held-fits =
+      let all : (failure : Failure) → AtMostWalks (mostNodes * mostNodes) (lineOf R T failure) = λ failure. line-fits R T failure few in
+      let (a, b) = sums-fit (lineOf R T) (mostNodes * mostNodes) (λ failure. (all failure .delivered, all failure .dropped)) k in
+      (omega (arith, before .delivers), omega (arith, before .drops))
 
-  module _ (few : n ≤ mostNodes) where
-    line-by-fits : (failure : Failure)
-        → (lineBy failure .delivered ≤ mostNodes * mostNodes) × (lineBy failure .dropped ≤ mostNodes * mostNodes)
-    line-by-fits failure =
-        line-fits n (trailAt map n routing forwarding backwarding failure) (trail-at-short map n routing forwarding backwarding failure) few
-
-    module _ {k : ℕ} {lines : List Line} {delivered dropped : ℕ} (before : HeldUpTo lineBy k lines delivered dropped) where
-      pub held-fits : (delivered ≤ suc k * (mostNodes * mostNodes)) × (dropped ≤ suc k * (mostNodes * mostNodes))
-      held-fits =
-          let (a, b) = sums-fit lineBy (mostNodes * mostNodes) line-by-fits k in
-          (omega (arith, before .delivers), omega (arith, before .drops))
-
-      pub held-on-fits : {more : Line} → more ≡ lineBy (One (record { 0 = k }))
-          → (delivered + more .delivered ≤ suc (suc k) * (mostNodes * mostNodes))
-          × (dropped + more .dropped ≤ suc (suc k) * (mostNodes * mostNodes))
-      held-on-fits counted =
-          let (a, b) = held-fits in
-          let (d, e) = line-by-fits (One (record { 0 = k })) in
-          (omega (arith, ap (λ (l : Line). l .delivered) counted), omega (arith, ap (λ (l : Line). l .dropped) counted))
+  pub held-on-fits : {more : Line} → more ≡ lineOf R T (One (record { 0 = k }))
+      → (delivered + more .delivered ≤ suc (suc k) * (mostNodes * mostNodes))
+      × (dropped + more .dropped ≤ suc (suc k) * (mostNodes * mostNodes))
+  held-on-fits counted =
+      let (a, b) = held-fits in
+      let all = line-fits R T (One (record { 0 = k })) few in (
+        omega (arith, all .delivered, ap (λ (l : Line). l .delivered) counted),
+        omega (arith, all .dropped, ap (λ (l : Line). l .dropped) counted),
+      )

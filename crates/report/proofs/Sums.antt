@@ -10,8 +10,8 @@ use native.Mathlib.Numerals.{add-one}
 use native.Mathlib.Omega.{arith}
 use borrow.Author.Tests.{eq-eqb, ne-eqb}
 use lib.Dec.{eqb}
-use Rattle.net.specs.Check.{pick}
-use Rattle.report.specs.Line.{sumBelow, mostBelow, sumOverPairs, mostOverPairs}
+use Rattle.net.specs.Choice.{pick}
+use Rattle.report.specs.Line.{sumBelow, mostBelow, sumOverPairs}
 
 -- a walk that is made from s: to every d but s
 abbrev pub apart : ℕ → (ℕ → ℕ) → ℕ → ℕ
@@ -37,11 +37,6 @@ module _ (f : ℕ → ℕ) where
     unfolding sumBelow
     sum-same zero same = refl
     sum-same (suc count) same = rw (sum-same count (λ k h. same k (omega arith)), same count (omega arith))
-
-    pub most-same : (count : ℕ) → ((k : ℕ) → k < count → f k ≡ g k) → mostBelow count f ≡ mostBelow count g
-    unfolding mostBelow
-    most-same zero same = refl
-    most-same (suc count) same = rw (most-same count (λ k h. same k (omega arith)), same count (omega arith))
 
     pub sum-both : (count : ℕ) → sumBelow count f + sumBelow count g ≡ sumBelow count (λ k. f k + g k)
     unfolding sumBelow
@@ -100,10 +95,6 @@ module _ (n : ℕ) (f g : ℕ → ℕ → ℕ) where
   pub pairs-same : ((s d : ℕ) → s < n → d < n → d ≢ s → f s d ≡ g s d) → sumOverPairs n f ≡ sumOverPairs n g
   unfolding sumOverPairs
   pairs-same same = sum-same _ _ n (λ s s-node. sum-same _ _ n (λ d d-node. pair-same same s d s-node d-node))
-
-  pub most-pairs-same : ((s d : ℕ) → s < n → d < n → d ≢ s → f s d ≡ g s d) → mostOverPairs n f ≡ mostOverPairs n g
-  unfolding mostOverPairs
-  most-pairs-same same = most-same _ _ n (λ s s-node. most-same _ _ n (λ d d-node. pair-same same s d s-node d-node))
 
   pub pairs-both : sumOverPairs n f + sumOverPairs n g ≡ sumOverPairs n (λ s d. f s d + g s d)
   unfolding sumOverPairs

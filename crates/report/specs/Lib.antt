@@ -1,3 +1,3 @@
 pub mod Line
 pub mod Lines
-pub mod Counting
+pub mod inner

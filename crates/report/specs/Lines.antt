@@ -1,16 +1,17 @@
--- All lines of a report, "without failure and for each failed link", and the last line: "walks made and the two sums".
+-- All lines of a report and their totals (document 01, "Report program"). Each definition stands under the words that it says.
 use Prim.Native.Nat.{ℕ, zero, suc, _+_, _-_}
-use mathlib.Core.Bool.{Bool, true, false}
 use mathlib.Core.List.{List, [], _∷_, _++_}
 use lib.ListN.{length, replicate}
 use lib.Dec.{eqb}
 use Rattle.net.specs.Limits.{mostLinks}
+use Rattle.net.specs.Choice.{pick}
 use Rattle.net.specs.Refusals.{accepted}
-use Rattle.net.specs.Check.{pick, checkNetwork, orElse}
+use Rattle.net.specs.Rows.{Rows}
 use Rattle.net.specs.declared.check.Verdict.{Verdict}
-use Rattle.net.specs.declared.interface.Failure.{Failure}
-use Rattle.net.specs.declared.interface.Failure.the-variants.{Nothing, One}
-use Rattle.walk.specs.Lent.{tablesVerdict}
+use Rattle.net.specs.declared.failure.Failure.{Failure}
+use Rattle.net.specs.declared.failure.Failure.the-variants.{Nothing, One}
+use Rattle.tables.specs.Lent.{LentTables}
+use Rattle.walk.specs.Lent.{lentVerdict}
 use Rattle.report.specs.Line.{lineOf, noLine}
 use Rattle.report.specs.declared.counting.Line.{Line}
 use Rattle.report.specs.declared.totals.Lines.{Lines}
@@ -20,7 +21,7 @@ unfoldable pub linkLines : ℕ → (Failure → Line) → ℕ → List Line
 linkLines zero line k = []
 linkLines (suc left) line k = line (One (record { 0 = k })) ∷ linkLines left line (suc k)
 
--- line 0 is that without failure, line k + 1 that of link k
+-- "without failure and for each failed link": line 0 is that without failure, line k + 1 that of link k
 unfoldable pub linesOver : ℕ → (Failure → Line) → List Line
 linesOver links line = line Nothing ∷ linkLines links line 0
 
@@ -32,7 +33,7 @@ unfoldable pub droppedOver : List Line → ℕ
 droppedOver [] = 0
 droppedOver (l ∷ lines) = l .dropped + droppedOver lines
 
--- the answer that holds these lines, with zeros past the last
+-- "Last: walks made and the two sums." The answer that holds these lines, with zeros past the last of them
 unfoldable pub linesHeld : ℕ → List Line → Lines
 linesHeld links lines =
     record {
@@ -44,19 +45,15 @@ linesHeld links lines =
       dropped = droppedOver lines;
     }
 
+-- "A refused plan prints one line, [..] with its number and place": every figure is 0
 unfoldable pub linesRefused : Verdict → Lines
 linesRefused v =
     record
     { number = v .number; place = v .place; lines = replicate (suc mostLinks) noLine; walks = 0; delivered = 0; dropped = 0 }
 
--- the network's refusals, then 14, 16
-unfoldable pub linesVerdict : ℕ → List ℕ → List ℕ → List ℕ → List ℕ → List ℕ → List ℕ → Verdict
-linesVerdict n low high weight routing forwarding backwarding =
-    orElse (checkNetwork n low high weight) (tablesVerdict n low high routing forwarding backwarding)
-
-unfoldable pub linesAnswer : ℕ → List ℕ → List ℕ → List ℕ → List ℕ → List ℕ → List ℕ → Lines
-linesAnswer n low high weight routing forwarding backwarding =
-    let v = linesVerdict n low high weight routing forwarding backwarding in
-    pick (eqb (v .number) accepted)
-    (linesHeld (length low) (linesOver (length low) (lineOf n low high weight routing forwarding backwarding)))
-    (linesRefused v)
+-- what `all_lines` answers: the network's refusals, then 14, 16
+unfoldable pub linesAnswer : Rows → LentTables → Lines
+linesAnswer R T =
+    let v = lentVerdict R T accepted in
+    let links = length (R .low) in
+    pick (eqb (v .number) accepted) (linesHeld links (linesOver links (lineOf R T))) (linesRefused v)

@@ -1,20 +1,19 @@
 // One failure line: walks delivered, all other walks, hops summed over delivered walks, most hops of a delivered walk.
 ghost use mathlib.Core.Path.{_≡_};
-ghost use Prim.Native.Nat.{_+_, _*_, _<_, _≤_};
-ghost use lib.ListN.{length};
-ghost use Rattle.net.specs.Limits.{mostNodes, reportHops};
-ghost use Rattle.walk.specs.Moves.{Reaches};
-ghost use Rattle.report.specs.Line.{noLine, figuresAnswer};
-ghost use Rattle.report.specs.Counting.{trailAt, countedLine, lineBelow, lineOverTrails, AtMostWalks};
+ghost use Rattle.report.specs.Line.{noLine, lineOf, figuresAnswer};
+ghost use Rattle.report.specs.inner.Counting.{courseAt, countedLine, lineBelow, OneMore, Source};
+ghost use Rattle.walk.specs.inner.Neighbours.{Ready};
 use net::Failure;
-use net::check_network;
+use net::Node;
+use net::failure_number;
 use net::limit;
 use net::refusal;
-use walk::Course;
-use walk::bad_failure;
-use walk::neighbours;
-use walk::tables_verdict;
-use walk::walk_from;
+use walk::inner::DELIVERED;
+use walk::inner::Outcome;
+use walk::inner::Question;
+use walk::inner::lent_verdict;
+use walk::inner::neighbours;
+use walk::inner::walk_from;
 
 pub struct Line {
     pub delivered: usize,
@@ -42,12 +41,11 @@ pub fn no_walks() -> Line
 }
 
 // The line with one walk more.
-fn counted(line: Line, course: Course) -> Line
-    requires { ⌜ AtMostWalks (mostNodes * mostNodes) line ⌝ }
-    requires { ⌜ course .hops ≤ reportHops ⌝ }
-    ensures { λ r. ⌜ r ≡ countedLine line (course .ending) (course .hops) ⌝ }
+fn counted(line: Line, outcome: Outcome) -> Line
+    requires { ⌜ OneMore line (outcome .hops) ⌝ }
+    ensures { λ r. ⌜ r ≡ countedLine line (outcome .ending) (outcome .hops) ⌝ }
 {
-    if course.ending != 0 {
+    if outcome.ending != DELIVERED {
         return Line {
             delivered: line.delivered,
             dropped: line.dropped + 1,
@@ -56,13 +54,13 @@ fn counted(line: Line, course: Course) -> Line
         };
     }
     let mut longest = line.longest;
-    if longest < course.hops {
-        longest = course.hops;
+    if longest < outcome.hops {
+        longest = outcome.hops;
     }
     Line {
         delivered: line.delivered + 1,
         dropped: line.dropped,
-        hops: line.hops + course.hops,
+        hops: line.hops + outcome.hops,
         longest: longest,
     }
 }
@@ -72,37 +70,47 @@ fn line_from(
     line: Line,
     map: &[u8],
     n: usize,
+    low: &[u8],
+    high: &[u8],
+    weight: &[u32],
     routing: &[u8],
     forwarding: &[u8],
     backwarding: &[u8],
     failure: Failure,
-    s: usize,
+    source: Node,
     trace: &mut [u8],
 ) -> Line
-    requires { ⌜ (n ≤ mostNodes) × (length (now map) ≡ mostNodes * mostNodes) × (n * n ≤ length (now routing)) ⌝ }
-    requires { ⌜ Reaches (now map) n (length (now forwarding)) × Reaches (now map) n (length (now backwarding)) ⌝ }
-    requires { ⌜ (s < n) × (reportHops < length (now trace)) ⌝ }
-    requires { ⌜ AtMostWalks (s * n) line ⌝ }
-    ensures { λ r. ⌜ r ≡ lineBelow n s
-        (trailAt (now (map .entry)) n (now (routing .entry)) (now (forwarding .entry)) (now (backwarding .entry)) failure s) line ⌝ }
+    requires { ⌜ Source (record { nodes = n; low = now low; high = now high; weight = now weight })
+        (record { routing = now routing; forwarding = now forwarding; backwarding = now backwarding })
+        (now map) (source .0) line (now trace) ⌝ }
+    ensures { λ r. ⌜ r ≡ lineBelow n (source .0)
+        (courseAt (record { nodes = n; low = now (low .entry); high = now (high .entry); weight = now (weight .entry) })
+        (record { routing = now (routing .entry); forwarding = now (forwarding .entry); backwarding = now (backwarding .entry) })
+        failure (source .0)) line ⌝ }
 {
     let mut sum = line;
     let mut d: usize = 0;
     while d < n {
-        if d != s {
-            let course = walk_from(
+        if d != source.0 {
+            let question = Question {
+                destination: Node(d),
+                failure: failure,
+            };
+            let outcome = walk_from(
                 map,
                 n,
+                low,
+                high,
+                weight,
                 routing,
                 forwarding,
                 backwarding,
-                s,
-                d,
-                failure,
+                source,
+                question,
                 limit::REPORT_HOPS,
                 trace,
             );
-            let more = counted(sum, course);
+            let more = counted(sum, outcome);
             sum = more;
         }
         d += 1;
@@ -114,17 +122,21 @@ fn line_from(
 pub fn line_of(
     map: &[u8],
     n: usize,
+    low: &[u8],
+    high: &[u8],
+    weight: &[u32],
     routing: &[u8],
     forwarding: &[u8],
     backwarding: &[u8],
     failure: Failure,
 ) -> Line
-    requires { ⌜ (n ≤ mostNodes) × (length (now map) ≡ mostNodes * mostNodes) × (n * n ≤ length (now routing)) ⌝ }
-    requires { ⌜ Reaches (now map) n (length (now forwarding)) × Reaches (now map) n (length (now backwarding)) ⌝ }
-    ensures { λ r. ⌜ r ≡ lineOverTrails n
-        (trailAt (now (map .entry)) n (now (routing .entry)) (now (forwarding .entry)) (now (backwarding .entry)) failure) ⌝ }
+    requires { ⌜ Ready (record { nodes = n; low = now low; high = now high; weight = now weight })
+        (record { routing = now routing; forwarding = now forwarding; backwarding = now backwarding }) (now map) ⌝ }
+    ensures { λ r. ⌜ r ≡ lineOf (record { nodes = n; low = now (low .entry); high = now (high .entry); weight = now (weight .entry) })
+        (record { routing = now (routing .entry); forwarding = now (forwarding .entry); backwarding = now (backwarding .entry) })
+        failure ⌝ }
 {
-    let mut trace = [0u8; 65];
+    let mut trace = [0u8; limit::REPORT_HOPS + 1];
     let mut line = no_walks();
     let mut s: usize = 0;
     while s < n {
@@ -132,27 +144,20 @@ pub fn line_of(
             line,
             map,
             n,
+            low,
+            high,
+            weight,
             routing,
             forwarding,
             backwarding,
             failure,
-            s,
+            Node(s),
             &mut trace,
         );
         line = more;
         s += 1;
     }
     line
-}
-
-fn refused(number: u8, place: usize) -> Figures
-    ensures { λ r. ⌜ r ≡ record { number = number; place = place; line = noLine } ⌝ }
-{
-    Figures {
-        number: number,
-        place: place,
-        line: no_walks(),
-    }
 }
 
 pub fn failure_line(
@@ -165,25 +170,43 @@ pub fn failure_line(
     backwarding: &[u8],
     failure: Failure,
 ) -> Figures
-    ensures { λ r. ⌜ r ≡ figuresAnswer n (now (low .entry)) (now (high .entry)) (now (weight .entry))
-        (now (routing .entry)) (now (forwarding .entry)) (now (backwarding .entry)) failure ⌝ }
+    ensures { λ r. ⌜ r ≡ figuresAnswer
+        (record { nodes = n; low = now (low .entry); high = now (high .entry); weight = now (weight .entry) })
+        (record { routing = now (routing .entry); forwarding = now (forwarding .entry); backwarding = now (backwarding .entry) })
+        failure ⌝ }
 {
-    let verdict = check_network(n, low, high, weight);
+    let number = failure_number(low.len(), failure);
+    let verdict = lent_verdict(
+        n,
+        low,
+        high,
+        weight,
+        number,
+        routing,
+        forwarding,
+        backwarding,
+    );
     if verdict.number != refusal::NONE {
-        return refused(verdict.number, verdict.place);
-    }
-    if bad_failure(low.len(), failure) {
-        return refused(refusal::FAILED_LINK, 0);
+        return Figures {
+            number: verdict.number,
+            place: verdict.place,
+            line: no_walks(),
+        };
     }
     let map = neighbours(n, low, high, weight);
-    let lent = tables_verdict(&map, n, low, high, weight, routing, forwarding, backwarding);
-    if lent.number != refusal::NONE {
-        return refused(lent.number, 0);
-    }
-    let line = line_of(&map, n, routing, forwarding, backwarding, failure);
     Figures {
         number: refusal::NONE,
         place: 0,
-        line: line,
+        line: line_of(
+            &map,
+            n,
+            low,
+            high,
+            weight,
+            routing,
+            forwarding,
+            backwarding,
+            failure,
+        ),
     }
 }

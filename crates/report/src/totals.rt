@@ -1,39 +1,38 @@
 // All lines of a report: without failure and for each failed link, and their totals. The tables are checked once.
 ghost use mathlib.Core.Path.{_≡_};
-ghost use Prim.Native.Nat.{_*_, _≤_};
 ghost use lib.ListN.{length};
-ghost use Rattle.net.specs.Limits.{mostNodes, mostLinks};
-ghost use Rattle.walk.specs.Moves.{Reaches};
+ghost use Rattle.report.specs.Line.{lineOf};
 ghost use Rattle.report.specs.Lines.{linesOver, linesHeld, linesRefused, linesAnswer};
-ghost use Rattle.report.specs.Counting.{trailAt, lineOverTrails};
+ghost use Rattle.walk.specs.inner.Neighbours.{Ready};
 use crate::counting::Line;
 use crate::counting::line_of;
 use crate::counting::no_walks;
 use net::Failure;
 use net::Link;
-use net::check_network;
+use net::Verdict;
+use net::limit;
 use net::refusal;
-use walk::neighbours;
-use walk::tables_verdict;
+use walk::inner::lent_verdict;
+use walk::inner::neighbours;
 
 // Line 0 is that without failure, line k + 1 that of link k; the places past the last are 0, and so is everything after a refusal.
 pub struct Lines {
     pub number: u8,
     pub place: usize,
-    pub lines: [Line; 65],
+    pub lines: [Line; limit::LINKS + 1],
     pub walks: usize,
     pub delivered: usize,
     pub dropped: usize,
 }
 
-fn refused(number: u8, place: usize) -> Lines
-    ensures { λ r. ⌜ r ≡ linesRefused (record { number = number; place = place }) ⌝ }
+fn refused(verdict: Verdict) -> Lines
+    ensures { λ r. ⌜ r ≡ linesRefused verdict ⌝ }
 {
     let none = no_walks();
-    let lines = [none; 65];
+    let lines = [none; limit::LINKS + 1];
     Lines {
-        number: number,
-        place: place,
+        number: verdict.number,
+        place: verdict.place,
         lines: lines,
         walks: 0,
         delivered: 0,
@@ -44,30 +43,45 @@ fn refused(number: u8, place: usize) -> Lines
 fn lines_of(
     map: &[u8],
     n: usize,
-    links: usize,
+    low: &[u8],
+    high: &[u8],
+    weight: &[u32],
     routing: &[u8],
     forwarding: &[u8],
     backwarding: &[u8],
 ) -> Lines
-    requires { ⌜ links ≤ mostLinks ⌝ }
-    requires { ⌜ (n ≤ mostNodes) × (length (now map) ≡ mostNodes * mostNodes) × (n * n ≤ length (now routing)) ⌝ }
-    requires { ⌜ Reaches (now map) n (length (now forwarding)) × Reaches (now map) n (length (now backwarding)) ⌝ }
-    ensures { λ r. ⌜ r ≡ linesHeld links
-        (linesOver links
-        (λ failure. lineOverTrails n
-        (trailAt (now (map .entry)) n (now (routing .entry)) (now (forwarding .entry)) (now (backwarding .entry)) failure))) ⌝ }
+    requires { ⌜ Ready (record { nodes = n; low = now low; high = now high; weight = now weight })
+        (record { routing = now routing; forwarding = now forwarding; backwarding = now backwarding }) (now map) ⌝ }
+    ensures { λ r. ⌜ r ≡ linesHeld (length (now (low .entry)))
+        (linesOver (length (now (low .entry)))
+        (lineOf (record { nodes = n; low = now (low .entry); high = now (high .entry); weight = now (weight .entry) })
+        (record { routing = now (routing .entry); forwarding = now (forwarding .entry); backwarding = now (backwarding .entry) }))) ⌝ }
 {
     let none = no_walks();
-    let mut lines = [none; 65];
-    let first = line_of(map, n, routing, forwarding, backwarding, Failure::Nothing);
+    let mut lines = [none; limit::LINKS + 1];
+    let first = line_of(
+        map,
+        n,
+        low,
+        high,
+        weight,
+        routing,
+        forwarding,
+        backwarding,
+        Failure::Nothing,
+    );
     lines[0] = first;
     let mut delivered = first.delivered;
     let mut dropped = first.dropped;
+    let links = low.len();
     let mut k: usize = 0;
     while k < links {
         let line = line_of(
             map,
             n,
+            low,
+            high,
+            weight,
             routing,
             forwarding,
             backwarding,
@@ -97,17 +111,22 @@ pub fn all_lines(
     forwarding: &[u8],
     backwarding: &[u8],
 ) -> Lines
-    ensures { λ r. ⌜ r ≡ linesAnswer n (now (low .entry)) (now (high .entry)) (now (weight .entry))
-        (now (routing .entry)) (now (forwarding .entry)) (now (backwarding .entry)) ⌝ }
+    ensures { λ r. ⌜ r ≡ linesAnswer (record { nodes = n; low = now (low .entry); high = now (high .entry); weight = now (weight .entry) })
+        (record { routing = now (routing .entry); forwarding = now (forwarding .entry); backwarding = now (backwarding .entry) }) ⌝ }
 {
-    let verdict = check_network(n, low, high, weight);
+    let verdict = lent_verdict(
+        n,
+        low,
+        high,
+        weight,
+        refusal::NONE,
+        routing,
+        forwarding,
+        backwarding,
+    );
     if verdict.number != refusal::NONE {
-        return refused(verdict.number, verdict.place);
+        return refused(verdict);
     }
     let map = neighbours(n, low, high, weight);
-    let lent = tables_verdict(&map, n, low, high, weight, routing, forwarding, backwarding);
-    if lent.number != refusal::NONE {
-        return refused(lent.number, 0);
-    }
-    lines_of(&map, n, low.len(), routing, forwarding, backwarding)
+    lines_of(&map, n, low, high, weight, routing, forwarding, backwarding)
 }

@@ -1,38 +1,65 @@
 -- All walks of a failure: the sources below s are counted, each with every destination, and `line_from` adds those of s.
-use Prim.Native.Nat.{suc, _≤_, _-_}
+use Prim.Native.Nat.{ℕ, suc, _≤_, _-_}
 use mathlib.Core.Path.{_≡_, refl, _∙_}
+use mathlib.Core.List.{List}
 use native.Mathlib.Omega.{arith}
 use borrow.Author.Needs.{needs}
 use lib.ListN.{length}
+use Rattle.graph.specs.Walk.{Course}
 use Rattle.net.specs.Limits.{reportHops}
-use Rattle.report.specs.Counting.{trailAt}
-use Rattle.report.proofs.Walks.{trail-at-short, sourcesBelow, source-none, source-counted, source-all, sources-fit}
+use Rattle.net.specs.Rows.{Rows}
+use Rattle.tables.specs.Lent.{LentTables}
+use Rattle.report.specs.inner.Counting.{courseAt}
+use Rattle.report.specs.declared.counting.Line.{Line}
+use Rattle.report.proofs.Walks.{course-short, sourcesBelow, source-none, source-counted, sources-all, sources-at-most}
 use Rattle.report.proofs.counting.line_of.Statement.{statement}
 use Rattle.report.proofs.counting.line_of.Tie as tie
 
+-- the walks of the sources below s have been counted
+record Below (n : ℕ) (course : ℕ → ℕ → Course) (trace : List ℕ) (line : Line) (s : ℕ) : Type 0 where
+  nodes : s ≤ n
+  room : length trace ≡ suc reportHops
+  sums : line ≡ sourcesBelow s n course
+
 abbrev Inv-loop : tie.InvT-loop
-Inv-loop map n routing forwarding backwarding failure trace₀ line₀ s₀ trace line s =
-    (s ≤ n) × (length trace ≡ suc reportHops) × (line ≡ sourcesBelow s n (trailAt map n routing forwarding backwarding failure))
+Inv-loop map n low high weight routing forwarding backwarding failure trace₀ line₀ s₀ trace line s =
+    Below n
+    (courseAt (record { nodes = n; low = low; high = high; weight = weight })
+    (record { routing = routing; forwarding = forwarding; backwarding = backwarding }) failure)
+    trace line s
 
 abbrev μ-loop : tie.MeasureT-loop
-μ-loop map n routing forwarding backwarding failure trace₀ line₀ s₀ trace line s = n - s
+μ-loop map n low high weight routing forwarding backwarding failure trace₀ line₀ s₀ trace line s = n - s
+
+-- where the loop is tested
+module _ (c : tie.At-loop Inv-loop μ-loop) where
+  abbrev start : tie.Start Inv-loop μ-loop
+  start = c .before .before .before .before .before .before .before .before .before
+
+  abbrev R : Rows
+  R = let a = start .args in record { nodes = a .n; low = a .low .now; high = a .high .now; weight = a .weight .now }
+
+  abbrev T : LentTables
+  T = let a = start .args in record { routing = a .routing .now; forwarding = a .forwarding .now; backwarding = a .backwarding .now }
 
 no-walks-requires : tie.Need-no-walks-requires Inv-loop μ-loop
 no-walks-requires c κs = search needs
 
 loop-holds : tie.Need-loop-holds Inv-loop μ-loop
-loop-holds c = (search needs, refl, c .no-walks .ensures ∙ source-none _ _)
+loop-holds c = record { nodes = search needs; room = refl; sums = c .no-walks .ensures ∙ source-none _ _ }
 
 slice-aggregate-line-from : tie.Need-slice-aggregate-line-from Inv-loop μ-loop
 slice-aggregate-line-from c = search needs
 
 line-from-requires : tie.Need-line-from-requires Inv-loop μ-loop
 line-from-requires c κs =
-    let at = c .before .before .loop in
-    let start = c .before .before .before .before .before .before .before .before in
-    let short = trail-at-short (start .args .map .now) (start .args .n) (start .args .routing .now) (start .args .forwarding .now)
-    (start .args .backwarding .now) (start .args .failure) in
-    (start .pre .0, (start .pre .1, ((c .before .loop-test .taken, omega (arith, at .inv .1)), sources-fit _ _ short (at .s) (at .inv .2))))
+    let at = c .before .before in
+    record {
+      ready = start at .pre;
+      source = c .before .loop-test .taken;
+      room = omega (arith, at .loop .inv .room);
+      counted = rw (at .loop .inv .sums) (sources-at-most _ _ (course-short (R at) (T at) (start at .args .failure)) (at .loop .s));
+    }
 
 add-s : tie.Need-add-s Inv-loop μ-loop
 add-s c = search needs
@@ -44,14 +71,17 @@ loop-again : tie.Need-loop-again Inv-loop μ-loop
 loop-again c =
     let at = c .before .before .before .before .loop in
     let went = c .before .line-from in
-    (search needs, went .kept .1 .1 .1 .1 .1 .1 .1 .1 .0 ∙ at .inv .1, source-counted _ _ (at .s) (at .inv .2) (went .ensures))
+    record {
+      nodes = search needs;
+      room = went .kept .1 .1 .1 .1 .1 .1 .1 .1 .1 .1 .1 .0 ∙ at .inv .room;
+      sums = source-counted _ _ (at .s) (at .inv .sums) (went .ensures);
+    }
 
 returns : tie.Need-returns Inv-loop μ-loop
 returns c =
-    let at = c .before .loop in
-    let start = c .before .before .before .before .before .before .before in
-    let all : at .s ≡ start .args .n = omega (arith, at .inv .0, c .loop-test .left) in
-    (rw all at (at .inv .2)) ∙ source-all _ _
+    let at = c .before in
+    let all : at .loop .s ≡ R at .nodes = omega (arith, at .loop .inv .nodes, c .loop-test .left) in
+    (rw all at (at .loop .inv .sums)) ∙ sources-all (R at) (T at) (start at .args .failure)
 
 pub line-of-spec : {M : Type 1} → statement M
 line-of-spec =

@@ -1,0 +1,2 @@
+-- Notions that only inner contracts need. A reader of the promises may leave them out: theorems join them to what is promised.
+pub mod Counting
