@@ -22,49 +22,52 @@ use Rattle.graph.specs.Walk.{Tables}
 use Rattle.graph.specs.Demand3.{BuiltEntries}
 use Rattle.graph.proofs.Interfaces.{head-node, tail-node}
 use Rattle.graph.proofs.Sets.{set-start, set-taken, set-passed, set-whole}
-use Rattle.net.specs.Check.{pick, both, Accepted}
+use Rattle.net.specs.Choice.{pick, both}
+use Rattle.net.specs.Check.{Accepted}
+use Rattle.net.specs.Rows.{Rows, Present, networkOf}
+use Rattle.net.proofs.Rows.{row-present}
 use Rattle.net.proofs.Accepted.{well-formed}
-use Rattle.paths.specs.Cost.{unknown, isKnown}
-use Rattle.paths.specs.Square.{cell, roundsOf, startSquare, Shows, BestSquare}
+use Rattle.paths.specs.inner.Cost.{unknown, isKnown}
+use Rattle.paths.specs.inner.Square.{cell, Shows, BestSquare}
+use Rattle.paths.specs.inner.Rounds.{roundsOf, startSquare}
 use Rattle.paths.specs.declared.cost.Cost.{Cost}
 use Rattle.paths.proofs.Cells.{hereCost}
 use Rattle.paths.proofs.BestSquare.{rounds-best, shows-all}
-use Rattle.paths.proofs.Shown.{known-true, known-false, Tells, leads, leads-nowhere, shown-tells}
-use Rattle.tables.specs.Key.{keyTest}
-use Rattle.tables.specs.Fill.{aheadOf, noted, forwardCost, Dearest, no-key}
+use Rattle.paths.proofs.SquareEntry.{known-true, known-false, Tells, leads, leads-nowhere, shown-tells}
+use Rattle.tables.specs.inner.KeyTest.{keyTest}
+use Rattle.tables.specs.inner.Detours.{aheadOf, noted, forwardCost, Dearest, no-key}
 use Rattle.tables.proofs.KeyTest.{key-test-by-squares, key-not-at-destination}
 use Rattle.tables.proofs.Detours.{noted-dearest}
 use Rattle.tables.proofs.Forwarding.{forward-tells}
 use Rattle.tables.proofs.Tests.{false-true}
-use Rattle.sheet.specs.Sheet.{Sample, networkIn}
 
 -- the entry of i for d that a cost tells
 unfoldable pub told : ℕ → ℕ → Cost → Hop
 told i d c = pick (eqb i d) here (pick (isKnown c) (onward (c .first)) nowhere)
 
-module _ (P : Sample) where
+module _ (R : Rows) where
   -- the costs without link `out`; over all links, where the number is no link's
   abbrev pub squareBut : ℕ → List (List Cost)
-  squareBut out = roundsOf (P .nodes - 1) (P .nodes) (P .low) (P .high) (P .weight) out (startSquare (P .nodes))
+  squareBut out = roundsOf (R .nodes - 1) R out (startSquare (R .nodes))
 
   unfoldable pub costBut : ℕ → ℕ → ℕ → Cost
   costBut out i d = cell (squareBut out) i d
 
   unfoldable pub costAll : ℕ → ℕ → Cost
-  costAll i d = costBut (length (P .low)) i d
+  costAll i d = costBut (length (R .low)) i d
 
   unfoldable pub routed : ℕ → ℕ → Hop
   routed d i = told i d (costAll i d)
 
   unfoldable pub backwarded : ℕ → ℕ → Hop
-  backwarded d h = told (tail (networkIn P) h) d (costBut (link h) (tail (networkIn P) h) d)
+  backwarded d h = told (tail (networkOf R) h) d (costBut (link h) (tail (networkOf R) h) d)
 
   -- link k is a key link of interface h
   unfoldable pub isKey : ℕ → ℕ → ℕ → Bool
   isKey d h k =
-      both (not (eqb (head (networkIn P) h) d))
-      (keyTest h (costAll (head (networkIn P) h) d) (costBut k (head (networkIn P) h) d) (costBut k (tail (networkIn P) h) d)
-      (costBut k (getD (P .low) k 0) d) (costBut k (getD (P .high) k 0) d))
+      both (not (eqb (head (networkOf R) h) d))
+      (keyTest h (costAll (head (networkOf R) h) d) (costBut k (head (networkOf R) h) d) (costBut k (tail (networkOf R) h) d)
+      (costBut k (getD (R .low) k 0) d) (costBut k (getD (R .high) k 0) d))
 
   -- the key links below a number, as a set
   unfoldable pub keysBelow : ℕ → ℕ → ℕ → ℕ
@@ -75,13 +78,13 @@ module _ (P : Sample) where
   unfoldable pub keptBelow : ℕ → ℕ → ℕ → Cost
   keptBelow i d zero = hereCost
   keptBelow i d (suc k) =
-      noted i d (keptBelow i d k) (costAll i d) (costBut k i d) (costBut k (aheadOf (P .low) (P .high) i d (costAll i d)) d)
-      (costBut k (getD (P .low) k 0) d) (costBut k (getD (P .high) k 0) d)
+      noted i d (keptBelow i d k) (costAll i d) (costBut k i d) (costBut k (aheadOf (R .low) (R .high) i d (costAll i d)) d)
+      (costBut k (getD (R .low) k 0) d) (costBut k (getD (R .high) k 0) d)
 
   unfoldable pub forwarded : ℕ → ℕ → Hop
   forwarded d h =
-      told (head (networkIn P) h) d
-      (forwardCost h (costAll (head (networkIn P) h) d) (keptBelow (head (networkIn P) h) d (length (P .low))))
+      told (head (networkOf R) h) d
+      (forwardCost h (costAll (head (networkOf R) h) d) (keptBelow (head (networkOf R) h) d (length (R .low))))
 
   -- all entries for one destination
   unfoldable pub computed : ℕ → Tables
@@ -100,70 +103,70 @@ module _ (N : Network) {X : ℕ → Type 0} {i d : ℕ} (c : Cost) where
   told-shown : WellFormed N → Shows N X i d c → Entry N X i d (told i d c)
   told-shown W shown = elim (ℕ-discrete i d) [ yes e ↦ told-here e | no away ↦ told-away away (shown-tells N W shown away) ]
 
-module _ (P : Sample) (A : Accepted (P .nodes) (P .low) (P .high) (P .weight)) where
+module _ (R : Rows) (A : Accepted R) where
   abbrev N : Network
-  N = networkIn P
+  N = networkOf R
 
   W : WellFormed N
-  W = well-formed (P .nodes) (P .low) (P .high) (P .weight) A
+  W = well-formed R A
 
   -- the costs are the cells of best squares
-  square-best : (out : ℕ) → BestSquare N out (squareBut P out)
-  square-best out = rounds-best A out (P .nodes - 1) (omega (arith, A .some-node))
+  square-best : (out : ℕ) → BestSquare N out (squareBut R out)
+  square-best out = rounds-best A out (R .nodes - 1) (omega (arith, A .some-node))
 
-  shown-all : {i d : ℕ} → i < P .nodes → d < P .nodes → Shows N All i d (costAll P i d)
+  shown-all : {i d : ℕ} → i < R .nodes → d < R .nodes → Shows N All i d (costAll R i d)
   unfolding costAll costBut
   shown-all {i} {d} node destination =
-      shows-all N W (length (P .low)) (omega arith) (square-best (length (P .low)) i d node destination)
+      shows-all N W (length (R .low)) (omega arith) (square-best (length (R .low)) i d node destination)
 
-  module _ (d : ℕ) (destination : d < P .nodes) where
-    pub routed-entry : (i : ℕ) → i < P .nodes → RoutingEntry N d i (routed P d i)
+  module _ (d : ℕ) (destination : d < R .nodes) where
+    pub routed-entry : (i : ℕ) → i < R .nodes → RoutingEntry N d i (routed R d i)
     unfolding routed
     routed-entry i node = told-shown N _ W (shown-all node destination)
 
-    module _ (h : ℕ) (up : link h < length (P .low)) where
-      pub backwarded-entry : BackwardingEntry N d h (backwarded P d h)
+    module _ (h : ℕ) (up : Present R (link h)) where
+      pub backwarded-entry : BackwardingEntry N d h (backwarded R d h)
       unfolding backwarded costBut
       backwarded-entry = told-shown N _ W (square-best (link h) (tail N h) d (tail-node N W h up) destination)
 
       -- the test with which the code finds key links, made away from the destination
-      key-told : (k : ℕ) → k < length (P .low) → (isKey P d h k ≡ true) ↔ KeyLink N d h k
+      key-told : (k : ℕ) → k < length (R .low) → (isKey R d h k ≡ true) ↔ KeyLink N d h k
       unfolding isKey costAll costBut
       key-told k present =
           elim (ℕ-discrete (head N h) d) [
             | yes e ↦ rw (eq-eqb (head N h) d e) (λ t. absurd (false-true t), λ key. absurd (key-not-at-destination N W e key))
             | no away ↦ rw (ne-eqb (head N h) d away)
-                (key-test-by-squares (P .nodes) (P .low) (P .high) (P .weight) W (squareBut P (length (P .low))) (squareBut P k) present
-                (square-best (length (P .low))) (square-best k) h up refl refl away destination)
+                (key-test-by-squares R W (squareBut R (length (R .low))) (squareBut R k) (row-present R k present)
+                (square-best (length (R .low))) (square-best k) h up refl refl away destination)
           ]
 
       -- one link more was tried
-      keys-more : (k set : ℕ) → k < length (P .low) → (test : Bool) → (test ≡ true) ↔ KeyLink N d h k
-          → SetOf (length (P .low)) (λ l. (l < k) × KeyLink N d h l) set
-          → SetOf (length (P .low)) (λ l. (l < suc k) × KeyLink N d h l) (pick test (bitOr set (2 ^ k)) set)
+      keys-more : (k set : ℕ) → k < length (R .low) → (test : Bool) → (test ≡ true) ↔ KeyLink N d h k
+          → SetOf (length (R .low)) (λ l. (l < k) × KeyLink N d h l) set
+          → SetOf (length (R .low)) (λ l. (l < suc k) × KeyLink N d h l) (pick test (bitOr set (2 ^ k)) set)
       keys-more k set present true tells before = set-taken present (tells .0 refl) before
       keys-more k set present false tells before = set-passed (λ key. false-true (tells .1 key)) before
 
-      keys-passed : (k : ℕ) → k ≤ length (P .low) → SetOf (length (P .low)) (λ l. (l < k) × KeyLink N d h l) (keysBelow P d h k)
+      keys-passed : (k : ℕ) → k ≤ length (R .low) → SetOf (length (R .low)) (λ l. (l < k) × KeyLink N d h l) (keysBelow R d h k)
       unfolding keysBelow
       keys-passed zero within = set-start
       keys-passed (suc k) within =
-          keys-more k (keysBelow P d h k) (omega arith) (isKey P d h k) (key-told k (omega arith)) (keys-passed k (omega arith))
+          keys-more k (keysBelow R d h k) (omega arith) (isKey R d h k) (key-told k (omega arith)) (keys-passed k (omega arith))
 
-      pub keys-are : SetOf (length (P .low)) (KeyLink N d h) (keysBelow P d h (length (P .low)))
-      keys-are = set-whole (keys-passed (length (P .low)) (omega arith))
+      pub keys-are : SetOf (length (R .low)) (KeyLink N d h) (keysBelow R d h (length (R .low)))
+      keys-are = set-whole (keys-passed (length (R .low)) (omega arith))
 
     -- the links below k were tried
-    kept-dearest : {i : ℕ} → i < P .nodes → i ≢ d → costAll P i d .sum < unknown → (k : ℕ) → k ≤ length (P .low)
-        → Dearest N i d (reverse (costAll P i d .first)) k (keptBelow P i d k)
+    kept-dearest : {i : ℕ} → i < R .nodes → i ≢ d → costAll R i d .sum < unknown → (k : ℕ) → k ≤ length (R .low)
+        → Dearest N i d (reverse (costAll R i d .first)) k (keptBelow R i d k)
     unfolding keptBelow costAll costBut
     kept-dearest node away known zero within = no-key refl (λ l below key. omega arith)
     kept-dearest {i} node away known (suc k) within =
-        noted-dearest (P .nodes) (P .low) (P .high) (P .weight) W (omega arith) (squareBut P (length (P .low))) (squareBut P k)
-        (square-best (length (P .low))) (square-best k) i d node destination away known (keptBelow P i d k)
+        noted-dearest R W (omega arith) (squareBut R (length (R .low))) (squareBut R k)
+        (square-best (length (R .low))) (square-best k) i d node destination away known (keptBelow R i d k)
         (kept-dearest node away known k (omega arith))
 
-    pub forwarded-entry : (h : ℕ) → link h < length (P .low) → ForwardingEntry N d h (forwarded P d h)
+    pub forwarded-entry : (h : ℕ) → Present R (link h) → ForwardingEntry N d h (forwarded R d h)
     unfolding forwarded
     forwarded-entry h up =
         let node = head-node N W h up in
@@ -171,10 +174,10 @@ module _ (P : Sample) (A : Accepted (P .nodes) (P .low) (P .high) (P .weight)) w
           | yes e ↦ told-here N _ e
           | no away ↦ told-away N _ away
               (forward-tells N W h away _ _ (shown-all node destination)
-              (λ known. kept-dearest node away known (length (P .low)) (omega arith)))
+              (λ known. kept-dearest node away known (length (R .low)) (omega arith)))
         ]
 
     -- so the computed tables are built
-    pub computed-built : BuiltEntries N d (computed P d)
+    pub computed-built : BuiltEntries N d (computed R d)
     unfolding computed
     computed-built = record { routing = routed-entry; forwarding = forwarded-entry; backwarding = backwarded-entry }

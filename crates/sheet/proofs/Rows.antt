@@ -10,39 +10,43 @@ use lib.Dec.{ltb, eqb}
 use lib.ListN.{length}
 use Rattle.graph.specs.Network.{link, reverse, byDirection, tail, head}
 use Rattle.graph.specs.Path.{visits}
-use Rattle.graph.specs.Walk.{failedBy, around, stepBy, Ending, endsBy, crossing, walkFrom, walkOf}
+use Rattle.graph.specs.Walk.{failedBy, around, stepBy, Ending, endsBy, crossing, goesOn, walkFrom, walkOf}
 use Rattle.net.specs.Refusals.{accepted}
-use Rattle.net.specs.Check.{both, Accepted}
+use Rattle.net.specs.Choice.{both}
+use Rattle.net.specs.Rows.{Rows, networkOf}
+use Rattle.net.specs.Check.{Accepted}
 use Rattle.net.specs.Check.{comesAfter, badEnds, badWeight, outOfOrder, linkFault, linksFrom, rowsDiffer, badNodeCount, checkNetwork}
 use Rattle.net.specs.Entry.{byteOf}
+use Rattle.net.proofs.Rows.{row-present}
 use Rattle.net.proofs.Accepted.{check-accepts, well-formed}
 use Rattle.plan.specs.Number.{groupsOf, stored, groupsFrom, numberAt}
 use Rattle.plan.specs.Reader.{refusal, takeWeight, weightAt, takeDifference, differenceAt, takeLow, linkAt, takeLink, linksRead}
 use Rattle.plan.specs.Reader.{takeLinkCount, linkCountAt, takeNodeCount, readPlan}
 use Rattle.plan.specs.declared.reader.Reading.{Reading}
-use Rattle.paths.specs.Cost.{noCost, isKnown, before, extended, lesserOf}
-use Rattle.paths.specs.Square.{cell, put, offer, offersOf, roundFrom, roundOf, roundsOf, startFrom, startSquare}
-use Rattle.tables.specs.Key.{hasLink, keyTest}
-use Rattle.tables.specs.Fill.{aheadOf, dearerOf, noted, forwardCost}
+use Rattle.paths.specs.inner.Cost.{noCost, isKnown, before, extended, lesserOf}
+use Rattle.paths.specs.inner.Square.{cell}
+use Rattle.paths.specs.inner.Rounds.{put, offer, offersOf, roundFrom, roundOf, roundsOf, startFrom, startSquare}
+use Rattle.tables.specs.inner.KeyTest.{hasLink, keyTest}
+use Rattle.tables.specs.inner.Detours.{aheadOf, dearerOf, noted, forwardCost}
 use Rattle.tables.proofs.Tests.{both-true}
-use Rattle.sheet.specs.Sheet.{Sample, networkIn, courseIn, planA, squarePlan, pairPlan}
+use Rattle.sheet.specs.Sheet.{courseIn, planA, squarePlan, pairPlan}
 use Rattle.sheet.specs.Sheet.{Row, routes, keys, forwards, backwards, walks, stores, refuses, Holds, Every, none, more, rows}
 use Rattle.sheet.proofs.Computed.{told, costBut, costAll, routed, backwarded, isKey, keysBelow, keptBelow, forwarded, computed}
 use Rattle.sheet.proofs.Computed.{routed-entry, keys-are, forwarded-entry, backwarded-entry, computed-built}
 use Rattle.sheet.proofs.SameWalk.{same-walk}
 
 -- the check accepts the network, d is a node of it, and a number is below a count
-unfoldable pub within : Sample → ℕ → ℕ → ℕ → Bool
-within P d a count =
-    both (eqb (checkNetwork (P .nodes) (P .low) (P .high) (P .weight) .number) accepted) (both (ltb d (P .nodes)) (ltb a count))
+unfoldable pub within : Rows → ℕ → ℕ → ℕ → Bool
+within R d a count =
+    both (eqb (checkNetwork R .number) accepted) (both (ltb d (R .nodes)) (ltb a count))
 
 -- the row's network is accepted, and the row names nodes and interfaces of it
 unfoldable pub fits : Row → Bool
-fits (routes P i d byte) = within P d i (P .nodes)
-fits (keys P h d set) = within P d (link h) (length (P .low))
-fits (forwards P h d byte) = within P d (link h) (length (P .low))
-fits (backwards P h d byte) = within P d (link h) (length (P .low))
-fits (walks P j trace ending) = within P (j .destination) (j .source) (P .nodes)
+fits (routes R i d byte) = within R d i (R .nodes)
+fits (keys R h d set) = within R d (link h) (length (R .low))
+fits (forwards R h d byte) = within R d (link h) (length (R .low))
+fits (backwards R h d byte) = within R d (link h) (length (R .low))
+fits (walks R j trace ending) = within R (j .destination) (j .source) (R .nodes)
 fits (stores v bytes) = true
 fits (refuses s number place) = true
 
@@ -58,60 +62,62 @@ pub data Answer : Type 0 where
   read : Reading → Answer
 
 unfoldable pub given : Row → Answer
-given (routes P i d byte) = value byte
-given (keys P h d set) = value set
-given (forwards P h d byte) = value byte
-given (backwards P h d byte) = value byte
-given (walks P j trace ending) = course trace ending
+given (routes R i d byte) = value byte
+given (keys R h d set) = value set
+given (forwards R h d byte) = value byte
+given (backwards R h d byte) = value byte
+given (walks R j trace ending) = course trace ending
 given (stores v bytes) = encoded bytes
 given (refuses s number place) = read (refusal number place)
 
 -- and what is computed for it
 unfoldable pub answered : Row → Answer
-answered (routes P i d byte) = value (byteOf (networkIn P) (routed P d i))
-answered (keys P h d set) = value (keysBelow P d h (length (P .low)))
-answered (forwards P h d byte) = value (byteOf (networkIn P) (forwarded P d h))
-answered (backwards P h d byte) = value (byteOf (networkIn P) (backwarded P d h))
-answered (walks P j trace ending) =
-    let c = courseIn P j (computed P (j .destination)) in
-    course (visits (networkIn P) (j .source) (c .crossed)) (c .ending)
+answered (routes R i d byte) = value (byteOf (networkOf R) (routed R d i))
+answered (keys R h d set) = value (keysBelow R d h (length (R .low)))
+answered (forwards R h d byte) = value (byteOf (networkOf R) (forwarded R d h))
+answered (backwards R h d byte) = value (byteOf (networkOf R) (backwarded R d h))
+answered (walks R j trace ending) =
+    let c = courseIn R j (computed R (j .destination)) in
+    course (visits (networkOf R) (j .source) (c .crossed)) (c .ending)
 answered (stores v bytes) = encoded (stored v)
 answered (refuses s number place) = read (readPlan s)
 
-record Within (P : Sample) (d a count : ℕ) : Type 0 where
-  network : Accepted (P .nodes) (P .low) (P .high) (P .weight)
-  destination : d < P .nodes
+record Within (R : Rows) (d a count : ℕ) : Type 0 where
+  network : Accepted R
+  destination : d < R .nodes
   below : a < count
 
-within-true : (P : Sample) (d a count : ℕ) → within P d a count ≡ true → Within P d a count
+within-true : (R : Rows) (d a count : ℕ) → within R d a count ≡ true → Within R d a count
 unfolding within
-within-true P d a count fit =
-    let (checked, numbers) = both-true (eqb (checkNetwork (P .nodes) (P .low) (P .high) (P .weight) .number) accepted) _ .0 fit in
-    let (node, other) = both-true (ltb d (P .nodes)) _ .0 numbers in
-    record { network = check-accepts _ _ _ _ (eqb-true _ _ checked); destination = ltb-true _ _ node; below = ltb-true _ _ other }
+within-true R d a count fit =
+    let (checked, numbers) = both-true (eqb (checkNetwork R .number) accepted) _ .0 fit in
+    let (node, other) = both-true (ltb d (R .nodes)) _ .0 numbers in
+    record { network = check-accepts R (eqb-true _ _ checked); destination = ltb-true _ _ node; below = ltb-true _ _ other }
 
 -- a row that fits, and gives what is computed, holds
 row-holds : (r : Row) → fits r ≡ true → answered r ≡ given r → Holds r
 unfolding Holds fits answered given
-row-holds (routes P i d byte) fit same =
-    let t = within-true P d i (P .nodes) fit in
-    record { hop = routed P d i; entry = routed-entry P (t .network) d (t .destination) i (t .below); is = cc }
-row-holds (keys P h d set) fit same =
-    let t = within-true P d (link h) (length (P .low)) fit in
-    let is : set ≡ keysBelow P d h (length (P .low)) = cc in
-    rw is (keys-are P (t .network) d (t .destination) h (t .below))
-row-holds (forwards P h d byte) fit same =
-    let t = within-true P d (link h) (length (P .low)) fit in
-    record { hop = forwarded P d h; entry = forwarded-entry P (t .network) d (t .destination) h (t .below); is = cc }
-row-holds (backwards P h d byte) fit same =
-    let t = within-true P d (link h) (length (P .low)) fit in
-    record { hop = backwarded P d h; entry = backwarded-entry P (t .network) d (t .destination) h (t .below); is = cc }
-row-holds (walks P j trace ending) fit same =
-    let t = within-true P (j .destination) (j .source) (P .nodes) fit in
+row-holds (routes R i d byte) fit same =
+    let t = within-true R d i (R .nodes) fit in
+    record { hop = routed R d i; entry = routed-entry R (t .network) d (t .destination) i (t .below); is = cc }
+row-holds (keys R h d set) fit same =
+    let t = within-true R d (link h) (length (R .low)) fit in
+    let is : set ≡ keysBelow R d h (length (R .low)) = cc in
+    rw is (keys-are R (t .network) d (t .destination) h (row-present R (link h) (t .below)))
+row-holds (forwards R h d byte) fit same =
+    let t = within-true R d (link h) (length (R .low)) fit in
+    let up = row-present R (link h) (t .below) in
+    record { hop = forwarded R d h; entry = forwarded-entry R (t .network) d (t .destination) h up; is = cc }
+row-holds (backwards R h d byte) fit same =
+    let t = within-true R d (link h) (length (R .low)) fit in
+    let up = row-present R (link h) (t .below) in
+    record { hop = backwarded R d h; entry = backwarded-entry R (t .network) d (t .destination) h up; is = cc }
+row-holds (walks R j trace ending) fit same =
+    let t = within-true R (j .destination) (j .source) (R .nodes) fit in
     λ T built.
-    let W = well-formed (P .nodes) (P .low) (P .high) (P .weight) (t .network) in
-    let also = computed-built P (t .network) (j .destination) (t .destination) in
-    rw (same-walk (networkIn P) W (failedBy (j .failure)) (j .destination) T (computed P (j .destination)) built also
+    let W = well-formed R (t .network) in
+    let also = computed-built R (t .network) (j .destination) (t .destination) in
+    rw (same-walk (networkOf R) W (failedBy (j .failure)) (j .destination) T (computed R (j .destination)) built also
     (j .limit) (j .source) (t .below))
     (record { visited = cc; ended = cc })
 row-holds (stores v bytes) fit same = cc
@@ -127,7 +133,7 @@ all-hold (r ∷ rest) fit same =
 pub bench-sheet : Every Holds rows
 unfolding rows allFit fits within given answered
     planA squarePlan pairPlan comesAfter badEnds badWeight outOfOrder linkFault linksFrom rowsDiffer badNodeCount checkNetwork
-    link reverse byDirection tail head visits failedBy around stepBy endsBy crossing walkFrom walkOf byteOf
+    link reverse byDirection tail head visits failedBy around stepBy endsBy crossing goesOn walkFrom walkOf byteOf
     noCost isKnown before extended lesserOf cell put offer offersOf roundFrom roundOf roundsOf startFrom startSquare
     hasLink keyTest aheadOf dearerOf noted forwardCost
     told costBut costAll routed backwarded isKey keysBelow keptBelow forwarded computed

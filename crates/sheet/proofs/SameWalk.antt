@@ -7,8 +7,8 @@ use mathlib.Core.Path.{_≡_, refl, ap, _∙_}
 use lib.Dec.{eqb}
 use Rattle.graph.specs.Network.{Network, WellFormed, link, head}
 use Rattle.graph.specs.Entries.{Hop, here, onward, nowhere, Entry, at-destination, starts, lacks}
-use Rattle.graph.specs.Walk.{Tables, Step, crosses, nothing, drops, around, stepBy, Ending, delivered, unrouted, dropped, astray}
-use Rattle.graph.specs.Walk.{Course, endsBy, crossing, walkFrom, walkOf}
+use Rattle.graph.specs.Walk.{Tables, Step, crosses, nothing, drops, around, stepBy, Ending, delivered, unrouted, astray}
+use Rattle.graph.specs.Walk.{Course, endsBy, crossing, goesOn, walkFrom, walkOf}
 use Rattle.graph.specs.Demand3.{BuiltEntries}
 use Rattle.graph.proofs.Chain.{first-present}
 use Rattle.graph.proofs.Entries.{entry-one}
@@ -61,17 +61,13 @@ module _ (N : Network) (W : WellFormed N) (failed : ℕ → Bool) (d : ℕ) (T U
 
   -- the walk after a step
   abbrev after : Tables → ℕ → Ending → Step → Course
-  after S limit lost s =
-      elim s as (λ x. Course) [
-        | crosses f ↦ crossing f (walkFrom N failed S d limit (head N f) (S .forwarding f) astray)
-        | nothing ↦ endsBy lost
-        | drops ↦ endsBy dropped
-      ]
+  after S limit = goesOn (λ f. walkFrom N failed S d limit (head N f) (S .forwarding f) astray)
 
   same-after : (limit : ℕ) (lost : Ending) {s : Step} → StepsOver N s
       → ((f : ℕ) → N .Present (link f)
       → walkFrom N failed T d limit (head N f) (T .forwarding f) astray ≡ walkFrom N failed U d limit (head N f) (U .forwarding f) astray)
       → after T limit lost s ≡ after U limit lost s
+  unfolding goesOn
   same-after limit lost loses next = refl
   same-after limit lost gives-up next = refl
   same-after limit lost (steps {f} up) next = ap (crossing f) (next f up)

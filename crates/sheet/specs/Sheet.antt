@@ -13,20 +13,10 @@ use Rattle.graph.specs.Entries.{KeyLink}
 use Rattle.graph.specs.Walk.{Tables, failedBy, Ending, delivered, dropped, exhausted, Course, walkOf}
 use Rattle.graph.specs.Demand3.{BuiltEntries}
 use Rattle.net.specs.Limits.{reportHops}
-use Rattle.net.specs.Rows.{networkOf}
+use Rattle.net.specs.Rows.{Rows, networkOf}
 use Rattle.plan.specs.Number.{stored}
 use Rattle.plan.specs.Reader.{readPlan, refusal}
 use Rattle.tables.specs.Entry.{RoutingByte, ForwardingByte, BackwardingByte}
-
--- a network of the sheet: its node count and three rows
-pub record Sample : Type 0 where
-  pub nodes : ℕ
-  pub low : List ℕ
-  pub high : List ℕ
-  pub weight : List ℕ
-
-abbrev pub networkIn : Sample → Network
-networkIn P = networkOf (P .nodes) (P .low) (P .high) (P .weight)
 
 -- one walk: which link has failed, source, destination and hop limit
 pub record Journey : Type 0 where
@@ -35,20 +25,22 @@ pub record Journey : Type 0 where
   pub destination : ℕ
   pub limit : ℕ
 
-abbrev pub courseIn : Sample → Journey → Tables → Course
-courseIn P j T = walkOf (networkIn P) (failedBy (j .failure)) T (j .destination) (j .limit) (j .source)
+-- its course on a network over some tables
+abbrev pub courseIn : Rows → Journey → Tables → Course
+courseIn R j T = walkOf (networkOf R) (failedBy (j .failure)) T (j .destination) (j .limit) (j .source)
 
+-- a row of the sheet; its network is given as in memory, by node count, low ends, high ends and weights
 pub data Row : Type 0 where
   -- the routing entry of the node for the destination is this byte
-  routes : Sample → ℕ → ℕ → ℕ → Row
+  routes : Rows → ℕ → ℕ → ℕ → Row
   -- the key links of the interface for the destination are this set
-  keys : Sample → ℕ → ℕ → ℕ → Row
+  keys : Rows → ℕ → ℕ → ℕ → Row
   -- the forwarding entry of the interface for the destination is this byte
-  forwards : Sample → ℕ → ℕ → ℕ → Row
+  forwards : Rows → ℕ → ℕ → ℕ → Row
   -- the backwarding entry of the interface for the destination is this byte
-  backwards : Sample → ℕ → ℕ → ℕ → Row
+  backwards : Rows → ℕ → ℕ → ℕ → Row
   -- the walk visits these nodes, its source first, so one more than it has hops, and ends so
-  walks : Sample → Journey → List ℕ → Ending → Row
+  walks : Rows → Journey → List ℕ → Ending → Row
   -- the number is stored as these bytes
   stores : ℕ → List ℕ → Row
   -- these bytes, as a plan, get this refusal number at this place
@@ -60,12 +52,12 @@ pub record Visits (N : Network) (source : ℕ) (c : Course) (trace : List ℕ) (
   pub ended : c .ending ≡ ending
 
 unfoldable pub Holds : Row → Type 0
-Holds (routes P i d byte) = RoutingByte (networkIn P) i d byte
-Holds (keys P h d set) = SetOf (length (P .low)) (KeyLink (networkIn P) d h) set
-Holds (forwards P h d byte) = ForwardingByte (networkIn P) h d byte
-Holds (backwards P h d byte) = BackwardingByte (networkIn P) h d byte
-Holds (walks P j trace ending) =
-    (T : Tables) → BuiltEntries (networkIn P) (j .destination) T → Visits (networkIn P) (j .source) (courseIn P j T) trace ending
+Holds (routes R i d byte) = RoutingByte (networkOf R) i d byte
+Holds (keys R h d set) = SetOf (length (R .low)) (KeyLink (networkOf R) d h) set
+Holds (forwards R h d byte) = ForwardingByte (networkOf R) h d byte
+Holds (backwards R h d byte) = BackwardingByte (networkOf R) h d byte
+Holds (walks R j trace ending) =
+    (T : Tables) → BuiltEntries (networkOf R) (j .destination) T → Visits (networkOf R) (j .source) (courseIn R j T) trace ending
 Holds (stores v bytes) = stored v ≡ bytes
 Holds (refuses s number place) = readPlan s ≡ refusal number place
 
@@ -75,7 +67,7 @@ pub data Every (P : Row → Type 0) : List Row → Type 0 where
 
 -- "Plan A: weights 0-1 1, 0-2 4, 0-3 9, 1-2 1, 2-3 1." The links are numbered 0 to 4 in this order, and interface 2k is link k entered
 -- from its low end.
-unfoldable pub planA : Sample
+unfoldable pub planA : Rows
 planA =
     record {
       nodes = 4;
@@ -85,12 +77,12 @@ planA =
     }
 
 -- "square 0-1, 0-2, 1-3, 2-3, all weight 1"
-unfoldable pub squarePlan : Sample
+unfoldable pub squarePlan : Rows
 squarePlan =
     record { nodes = 4; low = 0 ∷ 0 ∷ 1 ∷ 2 ∷ []; high = 1 ∷ 2 ∷ 3 ∷ 3 ∷ []; weight = 1 ∷ 1 ∷ 1 ∷ 1 ∷ [] }
 
 -- "two nodes, their one link"
-unfoldable pub pairPlan : Sample
+unfoldable pub pairPlan : Rows
 pairPlan = record { nodes = 2; low = 0 ∷ []; high = 1 ∷ []; weight = 1 ∷ [] }
 
 -- from s to d with one link failed, and with the report's hop limit, which no delivered packet of these networks uses up
