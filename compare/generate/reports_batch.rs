@@ -7,7 +7,6 @@
 
 use crate::chance::Chance;
 use crate::networks::{net_list, net_of_size, Net, Weights, MOST_LINKS};
-use crate::record::PLAN_BOUND;
 use crate::shapes::Shape;
 use crate::stored::{lengthened, longest, plan_at_random, plan_list, Draft};
 
@@ -35,7 +34,8 @@ fn full_plans(chance: &mut Chance) -> Vec<Vec<u8>> {
 /// it; then one byte over and over.
 fn overlong_plans(chance: &mut Chance) -> Vec<Vec<u8>> {
     let longest = longest(chance).plan();
-    let kept = PLAN_BOUND + 1;
+    // two counts of a byte, and for each link two ends of a byte and a weight of up to three
+    let kept = 2 + 5 * MOST_LINKS + 1;
     let lengths = [kept - 1, kept, kept + 1, FAR_TOO_LONG];
     let mut plans = lengths.map(|length| lengthened(longest.clone(), length, 0x01)).to_vec();
     plans.extend([0x00, 0x01, 0x80, 0xFF].map(|byte| vec![byte; FAR_TOO_LONG]));

@@ -10,9 +10,9 @@ use text::front_weights;
 use text::number_and_place;
 use text::text;
 
-// The bytes of the input that are kept: as many as 2 + 3 * LINKS numbers of three groups each, and one more, which shows that bytes are
-// left. No plan is longer, and from its first bytes an input gets the reader's answer to all of it (`reads-first` in `plan`).
-const KEPT: usize = 3 * (2 + 3 * limit::LINKS) + 1;
+// The bytes of the input that are kept: as many as the longest plan has, and one more, which shows that bytes are left. From these an
+// input gets the reader's answer to all of it (`reads-first` in `plan`).
+const KEPT: usize = plan::LONGEST + 1;
 
 fn print_refusal(number: u8, place: usize) {
     text(b"refused ");
