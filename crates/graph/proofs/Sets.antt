@@ -1,14 +1,15 @@
 -- Sets of links as numbers. The links of a path, each as its bit, are the set of the links that lie on it; a set is told by its bits,
 -- so one property has one number; and the laws for a loop that goes through the links by number and sets the bit of each that has the
--- property. The bit of a union is the greater of the two bits, and a single power is the set of one link.
+-- property. The bit of a union is the greater of the two bits, the bit of an intersection the smaller, and a single power is the set of
+-- one link; a number that is not 0 has a bit, so two sets whose intersection is not 0 have a link in common.
 use mathlib.Core.Path.{_≡_, refl, sym, _∙_}
 use mathlib.Core.Logic.{_⊎_, inl, inr, _≢_, _↔_}
 use mathlib.Core.List.{List, [], _∷_, map}
-use Prim.Native.Nat.{ℕ, zero, suc, _^_, _/_, _%_, _<_, max}
+use Prim.Native.Nat.{ℕ, zero, suc, _^_, _/_, _%_, _≤_, _<_, min, max}
 use native.Mathlib.Decide.{ℕ-discrete}
 use native.Mathlib.Nat.{div-div-eq-div-mul, pow-succ', zero-div, div-one, one-le-pow, add-zero}
 use native.Mathlib.Omega.{arith}
-use lib.Bits.{bitOr, or-lt, or-shr, or-step}
+use lib.Bits.{bitAnd, bitOr, and-shr, and-step, or-lt, or-shr, or-step}
 use Rattle.graph.specs.Network.{Network, WellFormed, link}
 use Rattle.graph.specs.Path.{Path, Lies, none, both, Distinct, Distinct.none as distinct-none, fresh}
 use Rattle.graph.specs.Set.{bit, SetOf, linkSet}
@@ -27,17 +28,32 @@ set-of-path {N} {p = p} W s =
       );
     }
 
+-- the bits of the half are those of the number, one place lower
+bit-half : (n k : ℕ) → bit (suc k) n ≡ bit k (n / 2)
+bit-half n k = rw (pow-succ' 2 k, ← div-div-eq-div-mul n 2 (2 ^ k))
+
 -- numbers with the same bits are equal
 same-bits : (links : ℕ) {s t : ℕ} → s < 2 ^ links → t < 2 ^ links → ((k : ℕ) → k < links → bit k s ≡ bit k t) → s ≡ t
 same-bits zero hs ht same = omega arith
 same-bits (suc links) {s} {t} hs ht same =
     let rest : s / 2 ≡ t / 2 =
-    same-bits links (omega arith) (omega arith) (λ k h. sym (shifted s k) ∙ same (suc k) (omega arith) ∙ shifted t k) in
+    same-bits links (omega arith) (omega arith) (λ k h. sym (bit-half s k) ∙ same (suc k) (omega arith) ∙ bit-half t k) in
     let low : s % 2 ≡ t % 2 = rw (div-one s, div-one t) at (same 0 (omega arith)) in
     omega arith
-  where
-    shifted : (n k : ℕ) → bit (suc k) n ≡ bit k (n / 2)
-    shifted n k = rw (pow-succ' 2 k, ← div-div-eq-div-mul n 2 (2 ^ k))
+
+-- a number that is not 0 has a bit: the lowest, or one of its half's; `most` bounds the halves to come
+bit-within : (most n : ℕ) → n ≤ most → n ≢ 0 → (k : ℕ) × (bit k n ≡ 1)
+bit-within zero n h not-zero = absurd (not-zero (omega arith))
+bit-within (suc most) n h not-zero =
+    elim (ℕ-discrete (n % 2) 1) [
+      | yes odd ↦ (0, rw (div-one n) odd)
+      | no even ↦
+          let rest = bit-within most (n / 2) (omega arith) (λ e. not-zero (omega arith)) in
+          (suc (rest .0), bit-half n (rest .0) ∙ rest .1)
+    ]
+
+pub some-bit : (n : ℕ) → n ≢ 0 → (k : ℕ) × (bit k n ≡ 1)
+some-bit n not-zero = bit-within n n (omega arith) not-zero
 
 module _ {links : ℕ} {P : ℕ → Type 0} where
   -- one property, one set
@@ -61,17 +77,20 @@ module _ {links : ℕ} {P : ℕ → Type 0} where
     bits = λ k h. (λ e. same k h .0 (a .bits k h .0 e), λ q. a .bits k h .1 (same k h .1 q));
   }
 
-bit-or : (k a b : ℕ) → bit k (bitOr a b) ≡ max (bit k a) (bit k b)
+pub bit-or : (k a b : ℕ) → bit k (bitOr a b) ≡ max (bit k a) (bit k b)
 bit-or k a b = rw (or-shr a b k) (omega (arith, or-step (a / 2 ^ k) (b / 2 ^ k)))
+
+pub bit-and : (k a b : ℕ) → bit k (bitAnd a b) ≡ min (bit k a) (bit k b)
+bit-and k a b = rw (and-shr a b k) (omega (arith, and-step (a / 2 ^ k) (b / 2 ^ k)))
 
 -- a power is the set of one link
 alone : (k : ℕ) → Distinct (k ∷ [])
 alone k = fresh none distinct-none
 
-bit-own : (k : ℕ) → bit k (2 ^ k) ≡ 1
+pub bit-own : (k : ℕ) → bit k (2 ^ k) ≡ 1
 bit-own k = rw (add-zero (2 ^ k)) at (bit-in {l = k ∷ []} (alone k) (first refl))
 
-bit-other : (k l : ℕ) → l ≢ k → bit l (2 ^ k) ≡ 0
+pub bit-other : (k l : ℕ) → l ≢ k → bit l (2 ^ k) ≡ 0
 bit-other k l n = rw (add-zero (2 ^ k)) at (bit-out {l = k ∷ []} (alone k) (both n none))
 
 -- one link more

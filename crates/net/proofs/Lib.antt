@@ -1,4 +1,5 @@
 pub mod Rows
+pub mod LinkSets
 pub mod Faults
 pub mod Stages
 pub mod Accepted

@@ -1,2 +1,3 @@
 -- Notions that only inner contracts need. A reader of the promises may leave them out: theorems join them to what is promised.
+pub mod LinkSet
 pub mod Overwritten

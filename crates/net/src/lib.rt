@@ -5,6 +5,7 @@ pub mod entry;
 mod failure;
 mod interface;
 pub mod limit;
+pub mod link_set;
 pub mod refusal;
 
 pub use check::Verdict;
@@ -25,6 +26,7 @@ pub use interface::head_of;
 pub use interface::link_of;
 pub use interface::reverse_of;
 pub use interface::tail_of;
+pub use link_set::LinkSet;
 
 // The network that a reader's answer holds: the rows' places past the last link are 0.
 pub struct Network {
