@@ -2,11 +2,11 @@
 -- chain has to be followed: the first interface of the best chain of i is the one over which the entry of i is the sum, or the one
 -- that was kept with the entry when its offer won; and a best chain crosses interface h exactly if it has the link of h and the
 -- entry falls from the tail of h to its head. So the key links are read off the column of all links and the columns without one.
--- From a finished column the one without link k is started by blanking the entries whose chains have k: the others stand (B4).
+-- From a finished column one over fewer links can be started (Restart).
 use mathlib.Core.Path.{_≡_, refl, sym, ap, _∙_}
 use mathlib.Core.Logic.{_⊎_, inl, inr, _≢_, _↔_}
 use mathlib.Core.List.{List, [], _∷_, _++_, map}
-use mathlib.Core.Option.{Option, none, some}
+use mathlib.Core.Option.{none, some}
 use Prim.Native.Nat.{ℕ, _+_, _≤_, _<_}
 use native.Mathlib.Decide.{ℕ-discrete}
 use native.Mathlib.Omega.{arith}
@@ -14,12 +14,12 @@ use Rattle.graph.specs.Network.{Network, WellFormed, link, reverse, tail
 use Rattle.graph.specs.Path.{Chain, stop, step, Over, Distinct, both, All, But, Lies, here, later}
 use Rattle.graph.specs.Entries.{KeyLink}
 use Rattle.graph.proofs.Interfaces.{tail-reverse, head-reverse, same-link}
-use Rattle.graph.proofs.Chain.{linkCost, cost, Best, On, find, link-cost-positive, best-from, best-after, best-fewer}
-use Rattle.graph.proofs.Chain.{chain-nil, first-present, first-tail, first-over}
+use Rattle.graph.proofs.Chain.{linkCost, cost, Best, On, link-cost-positive, best-from, best-after}
+use Rattle.graph.proofs.Chain.{first-present, first-tail, first-over}
 use Rattle.graph.proofs.Unique.{unique}
 use Rattle.graph.proofs.Agreement.{path-best, best-path}
-use Rattle.graph.proofs.Rounds.{Column, AtMost, Falls, Offer, Rests, ended, rest, Sound, Complete, Finished}
-use Rattle.graph.proofs.Rounds.{no-entry, falls-same, falls-twice, at-most-falls, complete-start}
+use Rattle.graph.proofs.Rounds.{Column, AtMost, Falls, Offer, Finished}
+use Rattle.graph.proofs.Rounds.{no-entry, falls-same, falls-twice, at-most-falls}
 
 -- the link lies on the chain, said in the two ways
 pub on-lies : {k : ℕ} {p : List ℕ} → On k p → Lies k p
@@ -71,12 +71,6 @@ pub record Descends (N : Network) (D : Column) (h : ℕ) : Type 0 where
   pub low : ℕ
   pub at-head : D (head N h) ≡ some low
   pub less : low < high
-
--- D′ is D without the entries whose best chains have link k
-pub record Blanked (N : Network) (X : ℕ → Type 0) (d k : ℕ) (D D′ : Column) : Type 0 where
-  pub nothing : (i : ℕ) → D i ≡ none → D′ i ≡ none
-  pub blank : (i : ℕ) (p : List ℕ) → Best N X i p d → On k p → D′ i ≡ none
-  pub kept : (i : ℕ) (p : List ℕ) → Best N X i p d → Over (But k) p → D′ i ≡ D i
 
 module _ (N : Network) (X : ℕ → Type 0) (d : ℕ) (D : Column) (t : Finished N X d D) where
   -- a chain that costs no more than the entry is a best one
@@ -275,79 +269,3 @@ module _ (N : Network) (X : ℕ → Type 0) (d : ℕ) where
             rw new toward
         | no t ↦ rw (others i t .1) (toward-falls (o .falls) (l i e away (sym (others i t .0) ∙ q)))
       ]
-
-  -- Y is X without link k
-  module _ (Y : ℕ → Type 0) (k : ℕ) (less : (l : ℕ) → Y l → X l) (most : (l : ℕ) → X l → l ≢ k → Y l) where
-    over-most : {p : List ℕ} → Over X p → Over (But k) p → Over Y p
-    over-most Over.none Over.none = Over.none
-    over-most (both x o) (both y s) = both (most _ x y) (over-most o s)
-
-    module _ (D D′ : Column) (t : Finished N X d D) (blanked : Blanked N X d k D D′) where
-      -- what is left is as it was
-      restart-entry : (i c : ℕ) → D′ i ≡ some c → D i ≡ some c
-      restart-entry i c e = go (D i) refl
-        where
-          go : (o : Option ℕ) → D i ≡ o → D i ≡ some c
-          go none q = absurd (no-entry (blanked .nothing i q) e)
-          go (some a) q =
-              let s = finished-best N X d D t i a q in
-              elim (find k (s .way)) [
-                | inl o ↦ sym (blanked .kept i (s .way) (s .best) o) ∙ e
-                | inr o ↦ absurd (no-entry (blanked .blank i (s .way) (s .best) o) e)
-              ]
-
-      restart-without : (i c : ℕ) (p : List ℕ) → D′ i ≡ some c → Best N X i p d → Over (But k) p
-      restart-without i c p e b =
-          elim (find k p) [ inl o ↦ o | inr o ↦ absurd (no-entry (blanked .blank i p b o) e) ]
-
-      restart-at : (i : ℕ) (p : List ℕ) → Best N X i p d → Over (But k) p → AtMost (D′ i) (cost N p)
-      restart-at i p b o =
-          record { value = cost N p; is = blanked .kept i p b o ∙ finished-cost N X d D t b; at-most = omega arith }
-
-      restart-rests : {i : ℕ} (p : List ℕ) → Best N X i p d → Over (But k) p → Rests N d D′ p
-      restart-rests {i} [] b o = ended (rw (chain-nil N (b .chain)) at (restart-at i [] b o))
-      restart-rests (f ∷ p) b (both h o) =
-          rest (restart-at (tail N f) (f ∷ p) (best-from N [] f p b) (both h o)) (restart-rests p (best-after N [] f p b) o)
-
-      -- the entries kept are final
-      pub restart-final : (i c : ℕ) → D′ i ≡ some c → Settled N Y d i c
-      restart-final i c e =
-          let s = finished-best N X d D t i c (restart-entry i c e) in
-          let o = over-most (s .best .over) (restart-without i c (s .way) e (s .best)) in
-          record { way = s .way; best = best-fewer N less o (s .best); costs = s .costs; once = s .once }
-
-      pub restart-sound : Sound N Y d D′
-      restart-sound i c e =
-          let s = finished-best N X d D t i c (restart-entry i c e) in
-          let o = restart-without i c (s .way) e (s .best) in
-          record {
-            way = s .way;
-            chain = s .best .chain;
-            over = over-most (s .best .over) o;
-            costs = s .costs;
-            once = s .once;
-            rests = restart-rests (s .way) (s .best) o;
-          }
-
-      pub restart-complete : Complete N Y d 0 D′
-      restart-complete =
-          let b : Best N X d [] d = record { chain = stop refl; over = Over.none; least = λ {q} u v. omega arith } in
-          complete-start N Y d D′ (blanked .kept d [] b Over.none ∙ finished-cost N X d D t b)
-
-      pub restart-led : (F : ℕ → ℕ) → Led N X d D F → Led N Y d D′ F
-      restart-led F l i c away e =
-          let q = restart-entry i c e in
-          let s = first-kept N X d D t F l i c away q in
-          go (s .0) (s .1) (l i c away q) (restart-without i c (F i ∷ s .0) e (s .1))
-        where
-          go : (p : List ℕ) → Best N X i (F i ∷ p) d → Toward N X D i c (F i) → Over (But k) (F i ∷ p) → Toward N Y D′ i c (F i)
-          go p b w (both h o) =
-              let same : c ≡ cost N (F i ∷ p) = cc (restart-entry i c e, finished-cost N X d D t b) in
-              record {
-                present = w .present;
-                within = most _ (w .within) h;
-                at-tail = w .at-tail;
-                onward = cost N p;
-                at-head = restart-at (head N (F i)) p (best-after N [] (F i) p b) o;
-                sum = omega arith;
-              }

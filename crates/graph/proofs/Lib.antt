@@ -8,6 +8,7 @@ pub mod Agreement
 pub mod Named
 pub mod Rounds
 pub mod Finished
+pub mod Restart
 pub mod Keys
 pub mod Entries
 pub mod Walk

@@ -1,6 +1,6 @@
 -- Best paths by rounds: the laws that a loop over the links can cite. One column holds, for a fixed destination d and the links X
 -- left in, the cost of the best chain known so far from each node. An interface f offers the cost of its link and its head's entry
--- to its tail, and the smaller is kept; a round makes the offer of every interface at least once.
+-- to its tail, and the smaller is kept; a round makes the offer of every interface at least once, in whatever order the links come.
 -- Two promises are kept. Sound: each entry is the cost of a chain, and each node of that chain has an entry that is at most the
 -- cost of the rest from there; so an offer that comes back to a node never wins, and no link is counted twice. Complete: after r
 -- rounds an entry is at most the cost of every chain with at most r links. Enough rounds, or one that changes nothing, leave the
@@ -81,9 +81,9 @@ pub record Round (N : Network) (X : ℕ → Type 0) (d : ℕ) (K : ℕ → Type 
 abbrev pub Usable : Network → (ℕ → Type 0) → ℕ → Type 0
 Usable N X f = N .Present (link f) × X (link f)
 
--- those among them whose links have numbers below k
-abbrev pub Passed : Network → (ℕ → Type 0) → ℕ → ℕ → Type 0
-Passed N X k f = (link f < k) × N .Present (link f) × X (link f)
+-- those among them whose links have had their turn
+abbrev pub Passed : Network → (ℕ → Type 0) → (ℕ → Type 0) → ℕ → Type 0
+Passed N X P f = P (link f) × N .Present (link f) × X (link f)
 
 -- a column that an offer may read when a round that began with D₀ has come to D
 pub record Readable (N : Network) (X : ℕ → Type 0) (d : ℕ) (D₀ E D : Column) : Type 0 where
@@ -347,27 +347,30 @@ module _ (N : Network) (X : ℕ → Type 0) where
               let a = all i (t .way) (t .path .chain) (t .over) (omega (arith, short N W node (t .path))) in
               record { value = a .value; is = a .is; at-most = omega (arith, t .cheaper) }
 
-    -- A round that goes through the links by number: each link is skipped or makes both its offers.
-    pub round-skip : {D₀ D : Column} {k : ℕ} → (N .Present k → X k → ⊥) → Round N X d (Passed N X k) D₀ D
-        → Round N X d (Passed N X (suc k)) D₀ D
-    round-skip {k = k} unusable r =
-        round-covers
-        (λ g t. elim (ℕ-discrete (link g) k) [
-          | yes e ↦ absurd (unusable (rw e at (t .1)) (rw e at (t .2)))
-          | no e ↦ (omega (arith, t .0), t .1, t .2)
-        ])
-        r
+    -- A round that goes through the links, each in its turn. The links of P have had theirs, and those of P′ when link k has: it is
+    -- skipped, or makes both its offers.
+    module _ (P P′ : ℕ → Type 0) (k : ℕ) (next : (l : ℕ) → P′ l → P l ⊎ (l ≡ k)) where
+      pub round-skip : {D₀ D : Column} → (N .Present k → X k → ⊥) → Round N X d (Passed N X P) D₀ D → Round N X d (Passed N X P′) D₀ D
+      round-skip unusable r =
+          round-covers
+          (λ g t. elim (next (link g) (t .0)) [
+            | inl passed ↦ (passed, t .1, t .2)
+            | inr e ↦ absurd (unusable (rw e at (t .1)) (rw e at (t .2)))
+          ])
+          r
 
-    pub round-link : {D₀ E E′ D D′ D″ : Column} {k f : ℕ} → link f ≡ k → Round N X d (Passed N X k) D₀ D
-        → Readable N X d D₀ E D → Offer N X f E D D′ → Readable N X d D₀ E′ D′ → Offer N X (reverse f) E′ D′ D″
-        → Round N X d (Passed N X (suc k)) D₀ D″
-    round-link {k = k} {f = f} e r a o b p =
-        let first : Round N X d (λ g. Passed N X k g ⊎ (g ≡ f)) _ _ = round-offer r a o (λ g t. t) in
-        round-offer first b p
-        (λ g t. elim (ℕ-discrete (link g) k) [
-          | yes q ↦ elim (same-link g f (q ∙ sym e)) [ inl s ↦ inl (inr s) | inr s ↦ inr s ]
-          | no q ↦ inl (inl (omega (arith, t .0), t .1, t .2))
-        ])
+      pub round-link : {D₀ E E′ D D′ D″ : Column} {f : ℕ} → link f ≡ k → Round N X d (Passed N X P) D₀ D
+          → Readable N X d D₀ E D → Offer N X f E D D′ → Readable N X d D₀ E′ D′ → Offer N X (reverse f) E′ D′ D″
+          → Round N X d (Passed N X P′) D₀ D″
+      round-link {f = f} e r a o b p =
+          let first : Round N X d (λ g. Passed N X P g ⊎ (g ≡ f)) _ _ = round-offer r a o (λ g t. t) in
+          round-offer first b p
+          (λ g t. elim (next (link g) (t .0)) [
+            | inl passed ↦ inl (inl (passed, t .1, t .2))
+            | inr q ↦ elim (same-link g f (q ∙ sym e)) [ inl s ↦ inl (inr s) | inr s ↦ inr s ]
+          ])
 
-    pub round-whole : {D₀ D : Column} → WellFormed N → Round N X d (Passed N X (N .links)) D₀ D → Round N X d (Usable N X) D₀ D
-    round-whole W r = round-covers (λ g t. (W .numbered _ (t .0), t .0, t .1)) r
+    -- every link has had its turn
+    pub round-whole : (P : ℕ → Type 0) → {D₀ D : Column} → WellFormed N → ((k : ℕ) → k < N .links → P k)
+        → Round N X d (Passed N X P) D₀ D → Round N X d (Usable N X) D₀ D
+    round-whole P W all r = round-covers (λ g t. (all (link g) (W .numbered _ (t .0)), t .0, t .1)) r
