@@ -1,4 +1,4 @@
--- What `best_path` answers from an entry of the square: the measures of the best path, and the routing entry as a byte.
+-- What `best_path` answers from an entry of a column: the measures of the best path, and the routing entry as a byte.
 use Prim.Native.Nat.{ℕ, _%_}
 use mathlib.Core.Bool.{true, false}
 use mathlib.Core.Path.{_≡_, refl}
@@ -15,22 +15,22 @@ use Rattle.graph.proofs.Sets.{set-of-path}
 use Rattle.net.specs.Entry.{nowhereByte, EntryByte}
 use Rattle.net.specs.Rows.{Rows, networkOf, headOf}
 use Rattle.net.specs.Check.{Accepted}
+use Rattle.net.specs.Limits.{mostNodes}
+use Rattle.net.specs.inner.LinkSet.{value}
 use Rattle.net.proofs.Accepted.{well-formed}
 use Rattle.net.proofs.Bytes.{nowhere-byte, onward-byte}
 use Rattle.paths.specs.inner.Cost.{isKnown}
-use Rattle.paths.specs.inner.Square.{Shows, BestSquare}
+use Rattle.paths.specs.inner.Column.{Shows, BestColumn}
 use Rattle.paths.specs.Best.{Measures, of-path, of-none}
 use Rattle.paths.specs.declared.cost.Cost.{Cost}
-use Rattle.paths.proofs.Cells.{Shaped}
-use Rattle.paths.proofs.Shape.{read-cell}
-use Rattle.paths.proofs.BestSquare.{shows-all}
+use Rattle.paths.proofs.Shape.{read-at}
 use Rattle.paths.proofs.Verdict.{Passed}
-use Rattle.paths.proofs.SquareEntry.{known-true, known-false, leads, leads-nowhere}
-use Rattle.paths.proofs.SquareEntry.{shown-known, shown-unknown, shown-tells, measured-set}
+use Rattle.paths.proofs.ColumnEntry.{known-true, known-false, leads, leads-nowhere}
+use Rattle.paths.proofs.ColumnEntry.{shown-known, shown-unknown, shown-tells, measured-set}
 
 module _ (N : Network) (W : WellFormed N) {s d : ℕ} where
   -- the measures of a known entry are those of the best path
-  pub shown-measures : {c : Cost} → Shows N All s d c → isKnown c ≡ true → Measures N s d (c .sum) (c .links)
+  pub shown-measures : {c : Cost} → Shows N All s d c → isKnown c ≡ true → Measures N s d (c .sum) (value (c .links))
   shown-measures {c} shown known =
       let (p, m) = shown-known N W shown (known-true c .0 known) in
       of-path (best-path N W (m .best)) (m .sum) (measured-set N W m)
@@ -63,11 +63,9 @@ module _ (R : Rows) (A : Accepted R) {X : ℕ → Type 0} {i d : ℕ} where
           | leads-nowhere h entry ↦ nowhere-byte entry
         ]
 
--- the entry that the code reads off the square over all links, whatever it would read past an array's end
-pub entry-shows : (R : Rows) {s d : ℕ} → Passed R s d → {square : List (List Cost)} → Shaped square
-    → BestSquare (networkOf R) (length (R .low)) square → (past : Cost)
-    → Shows (networkOf R) All s d (getD (getD square s []) d past)
-entry-shows R {s} {d} known {square} shaped best past =
+-- the entry that the code reads off the column over all links, whatever it would read past the array's end
+pub entry-shows : (R : Rows) {s d : ℕ} → Passed R s d → {column : List Cost} → length column ≡ mostNodes
+    → BestColumn (networkOf R) All d column → (past : Cost) → Shows (networkOf R) All s d (getD column s past)
+entry-shows R {s} {d} known {column} long best past =
     let A = known .network in
-    rw (read-cell square shaped s d (omega (arith, known .source, A .few-nodes)) (omega (arith, known .destination, A .few-nodes)) past)
-    (shows-all (networkOf R) (well-formed R A) (length (R .low)) (omega arith) (best s d (known .source) (known .destination)))
+    rw (read-at column s (omega (arith, known .source, A .few-nodes)) past) (best .shows s (known .source))

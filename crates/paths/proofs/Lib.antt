@@ -1,10 +1,12 @@
-pub mod Cells
 pub mod CostNumber
+pub mod ColumnEntry
 pub mod Offers
-pub mod BestSquare
+pub mod Columns
+pub mod Settling
+pub mod BestColumn
 pub mod Shape
-pub mod RoundSteps
-pub mod SquareEntry
+pub mod Steps
+pub mod Turning
 pub mod Answers
 pub mod Determined
 pub mod Verdict

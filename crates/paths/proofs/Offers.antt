@@ -1,4 +1,4 @@
--- One offer in one column of costs keeps what the rounds promise: it is an offer of the mathematics, each entry stays within bounds,
+-- One offer in a column of costs keeps what the rounds promise: it is an offer of the mathematics, each entry stays within bounds,
 -- and the first interface is kept with it. An offer over nothing is nothing. One over a link that the head's chain does not have
 -- costs the link's cost more, so the code's order on pairs decides as the order on numbers. One over a link that the chain has comes
 -- back to the tail, which is known as cheaply as the head: its weight sum is the smaller, and it stays.
@@ -11,7 +11,6 @@ use mathlib.Core.Option.{some}
 use native.Mathlib.Nat.{add-mul}
 use native.Mathlib.Decide.{ℕ-discrete, decLt}
 use native.Mathlib.Omega.{arith}
-use lib.Bits.{bitOr}
 use Rattle.graph.specs.Network.{Network, WellFormed, link, tail, head}
 use Rattle.graph.specs.Path.{Over, But, both, fresh}
 use Rattle.graph.specs.Set.{linkSet}
@@ -21,9 +20,12 @@ use Rattle.graph.proofs.Order.{LinksOnce, set-below, over-out}
 use Rattle.graph.proofs.Rounds.{Column, AtMost, Offer, Sound, falls-same, offer-loses, offer-wins, sound-offer}
 use Rattle.graph.proofs.Rounds.{known-comes-back, no-entry}
 use Rattle.graph.proofs.Finished.{Led, led-wins}
-use Rattle.paths.specs.inner.Cost.{unknown, noCost, before, extended, lesserOf}
+use Rattle.net.specs.Choice.{pick}
+use Rattle.net.specs.inner.LinkSet.{value, withLink}
+use Rattle.net.proofs.LinkSets.{value-with}
+use Rattle.paths.specs.inner.Cost.{unknown, noCost, before, extended}
 use Rattle.paths.specs.declared.cost.Cost.{Cost}
-use Rattle.paths.proofs.CostNumber.{Limited, number, entry, Fits, blank, known, Lower, before?, lesser-new, lesser-old}
+use Rattle.paths.proofs.CostNumber.{Limited, number, entry, Fits, blank, known, Lower, before?}
 use Rattle.paths.proofs.CostNumber.{extended-known, extended-blank, entry-known, entry-blank, blank-not-lower, Within, entry-within}
 use Rattle.paths.proofs.CostNumber.{blank-sum, Behind, behind, behind-light}
 
@@ -40,9 +42,19 @@ pub record Holds (N : Network) (X : ℕ → Type 0) (d : ℕ) (C : ℕ → Cost)
   pub sound : Sound N X d (entries N C)
   pub led : Led N X d (entries N C) (firsts C)
 
+-- what a node has after an offer: the way offered, if that comes before what it had
+abbrev pub better : Cost → Cost → Cost
+better own way = pick (before way own) way own
+
+better-new : (own way : Cost) → before way own ≡ true → better own way ≡ way
+better-new own way e = simp e
+
+better-old : (own way : Cost) → before way own ≡ false → better own way ≡ own
+better-old own way e = simp e
+
 -- the offer of interface f, as the code makes it
 pub record Offered (N : Network) (f : ℕ) (C C′ : ℕ → Cost) : Type 0 where
-  pub stored : C′ (tail N f) ≡ lesserOf (C (tail N f)) (extended (C (head N f)) (N .weight (link f)) (link f) f)
+  pub stored : C′ (tail N f) ≡ better (C (tail N f)) (extended (C (head N f)) (N .weight (link f)) (link f) f)
   pub others : (i : ℕ) → i ≢ tail N f → C′ i ≡ C i
 
 -- is an offer of the mathematics, and all still holds
@@ -90,7 +102,7 @@ module _ (N : Network) (W : WellFormed N) (L : Limited N) (X : ℕ → Type 0) (
         }
 
     -- the head's cost is known
-    module _ (known-sum : next .sum < unknown) (known-set : next .links < 2 ^ N .links) where
+    module _ (known-sum : next .sum < unknown) (known-set : value (next .links) < 2 ^ N .links) where
       at-head : entry N next ≡ some (number N next)
       at-head = entry-known N next known-sum
 
@@ -102,17 +114,17 @@ module _ (N : Network) (W : WellFormed N) (L : Limited N) (X : ℕ → Type 0) (
 
       abbrev new : Cost
       new =
-          record { sum = next .sum + N .weight (link f); links = bitOr (next .links) (2 ^ link f); first = f }
+          record { sum = next .sum + N .weight (link f); links = withLink (next .links) (link f); first = f }
 
-      stored-lesser : C′ (tail N f) ≡ lesserOf own new
-      stored-lesser = o .stored ∙ ap (λ a. lesserOf own a) (extended-known next (N .weight (link f)) (link f) f room)
+      stored-better : C′ (tail N f) ≡ better own new
+      stored-better = o .stored ∙ ap (λ a. better own a) (extended-known next (N .weight (link f)) (link f) f room)
 
       -- over a link that the head's chain does not have
       over-new-link : Over (But (link f)) (chain .known .way) → Stepped N X d f C C′
       over-new-link away = elim (before? new own) [ inl t ↦ wins (t .0) (t .1) | inr t ↦ loses (t .0) (t .1) ]
         where
-          set : bitOr (next .links) (2 ^ link f) ≡ linkSet (f ∷ chain .known .way)
-          set = rw (chain .set) (set-insert (chain .links-once .distinct) (over-out away))
+          set : value (withLink (next .links) (link f)) ≡ linkSet (f ∷ chain .known .way)
+          set = rw (value-with (next .links) (link f), chain .set) (set-insert (chain .links-once .distinct) (over-out away))
 
           links-once : LinksOnce N (f ∷ chain .known .way)
           links-once =
@@ -121,7 +133,7 @@ module _ (N : Network) (W : WellFormed N) (L : Limited N) (X : ℕ → Type 0) (
                 numbered = both (W .numbered (link f) present) (chain .links-once .numbered);
               }
 
-          small : new .links < 2 ^ N .links
+          small : value (new .links) < 2 ^ N .links
           small = omega (arith, set, set-below N links-once)
 
           costs : number N new ≡ linkCost N (link f) + number N next
@@ -129,7 +141,7 @@ module _ (N : Network) (W : WellFormed N) (L : Limited N) (X : ℕ → Type 0) (
 
           wins : before new own ≡ true → Lower new own → Stepped N X d f C C′
           wins t lower =
-              taken (number N next) new at-head (stored-lesser ∙ lesser-new own new t) (known room small) refl
+              taken (number N next) new at-head (stored-better ∙ better-new own new t) (known room small) refl
               (entry-known N new room ∙ ap some costs)
               (λ e q.
               let w = entry-within N own e (h .fits (tail N f)) q in
@@ -137,7 +149,7 @@ module _ (N : Network) (W : WellFormed N) (L : Limited N) (X : ℕ → Type 0) (
 
           loses : before new own ≡ false → (Lower new own → ⊥) → Stepped N X d f C C′
           loses t not-lower =
-              kept (stored-lesser ∙ lesser-old own new t)
+              kept (stored-better ∙ better-old own new t)
               (λ c q.
               let same : number N next ≡ c = cc (at-head, q) in
               elim (h .fits (tail N f)) [
@@ -166,7 +178,7 @@ module _ (N : Network) (W : WellFormed N) (L : Limited N) (X : ℕ → Type 0) (
             | inl (t, inl less) ↦ absurd (omega (arith, W .weighs (link f) present))
             | inl (t, inr same) ↦ absurd (omega (arith, W .weighs (link f) present))
             | inr (t, not-lower) ↦
-                kept (stored-lesser ∙ lesser-old own new t)
+                kept (stored-better ∙ better-old own new t)
                 (λ c q.
                 let same : number N next ≡ c = cc (at-head, q) in
                 record { value = back .value; is = back .is; at-most = omega (arith, back .at-most) })
@@ -180,10 +192,10 @@ module _ (N : Network) (W : WellFormed N) (L : Limited N) (X : ℕ → Type 0) (
     over-nothing e =
         let nothing : extended next (N .weight (link f)) (link f) f ≡ noCost = rw e (extended-blank (N .weight (link f)) (link f) f) in
         let stays : C′ (tail N f) ≡ own =
-        o .stored ∙ ap (λ a. lesserOf own a) nothing
+        o .stored ∙ ap (λ a. better own a) nothing
         ∙ elim (before? noCost own) [
           | inl (t, lower) ↦ absurd (blank-not-lower N own (h .fits (tail N f)) lower)
-          | inr (t, not-lower) ↦ lesser-old own noCost t
+          | inr (t, not-lower) ↦ better-old own noCost t
         ] in
         kept stays (λ c q. absurd (no-entry (ap (entry N) e ∙ entry-blank N) q))
 

@@ -1,14 +1,15 @@
 // The best path from a source to a destination: weight sum, links and routing entry.
 ghost use mathlib.Core.Path.{_≡_};
 ghost use Rattle.paths.specs.Best.{bestPathVerdict, BestPathAnswer};
+use crate::column::column_of;
 use crate::cost::known;
-use crate::square::square_of;
 use net::Interface;
 use net::Node;
 use net::Verdict;
 use net::check_network;
 use net::entry;
 use net::head_of;
+use net::link_set;
 use net::refusal;
 use net::unplaced;
 
@@ -69,9 +70,8 @@ pub fn best_path(
             entry: 0,
         };
     }
-    let links = low.len();
-    let square = square_of(n, low, high, weight, links);
-    let cost = square[s][d];
+    let column = column_of(n, low, high, weight, destination);
+    let cost = column[s];
     if s == d {
         return BestPath {
             number: refusal::NONE,
@@ -83,11 +83,12 @@ pub fn best_path(
     }
     if known(cost) {
         let next = head_of(Interface(cost.first as usize), low, high);
+        let links = cost.links;
         return BestPath {
             number: refusal::NONE,
             place: 0,
             sum: cost.sum,
-            links: cost.links,
+            links: link_set::number_of(links),
             entry: (next.0 % 256) as u8,
         };
     }

@@ -1,12 +1,15 @@
-// A path's cost: its weight sum, then its set of links (bit k for link k), which decides between equal sums: of two such sets the
-// smaller number lacks the highest link that is in only one of them. The first interface makes the next step free to read.
+// A path's cost: its weight sum, then its set of links, which decides between equal sums. The first interface makes the next step free
+// to read.
 ghost use mathlib.Core.Path.{_≡_};
 ghost use Prim.Native.Nat.{_<_};
 ghost use Rattle.net.specs.Limits.{mostLinks};
-ghost use Rattle.paths.specs.inner.Cost.{noCost, isKnown, before, extended, lesserOf};
+ghost use Rattle.paths.specs.inner.Cost.{noCost, hereCost, isKnown, before, extended};
+use net::Link;
+use net::LinkSet;
+use net::link_set;
 
 pub struct Cost {
-    pub links: u64,
+    pub links: LinkSet,
     pub sum: u32,
     pub first: u8,
 }
@@ -19,7 +22,18 @@ pub fn no_cost() -> Cost
 {
     Cost {
         sum: UNKNOWN,
-        links: 0,
+        links: link_set::empty(),
+        first: 0,
+    }
+}
+
+// The cost of the destination itself.
+pub fn here_cost() -> Cost
+    ensures { λ r. ⌜ r ≡ hereCost ⌝ }
+{
+    Cost {
+        sum: 0,
+        links: link_set::empty(),
         first: 0,
     }
 }
@@ -38,7 +52,9 @@ pub fn comes_before(a: Cost, b: Cost) -> bool
         return true;
     }
     if a.sum == b.sum {
-        return a.links < b.links;
+        let one = a.links;
+        let other = b.links;
+        return link_set::comes_before(one, other);
     }
     false
 }
@@ -49,21 +65,12 @@ pub fn extend(c: Cost, weight: u32, k: usize, f: u8) -> Cost
     ensures { λ r. ⌜ r ≡ extended c weight k f ⌝ }
 {
     if c.sum < UNKNOWN - weight {
+        let links = c.links;
         return Cost {
             sum: c.sum + weight,
-            links: c.links | (1 << k),
+            links: link_set::with_link(links, Link(k)),
             first: f,
         };
     }
     no_cost()
-}
-
-// The better of two costs; the first where they are equal.
-pub fn lesser(a: Cost, b: Cost) -> Cost
-    ensures { λ r. ⌜ r ≡ lesserOf a b ⌝ }
-{
-    if comes_before(b, a) {
-        return b;
-    }
-    a
 }

@@ -1,5 +1,6 @@
-// Best paths: the square of costs, filled by rounds over the links, and the best path between two nodes.
+// Best paths: columns of costs, filled by rounds over the links, squares of them, and the best path between two nodes.
 mod best;
+mod column;
 mod cost;
 pub mod inner;
 mod square;

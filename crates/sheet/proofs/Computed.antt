@@ -1,10 +1,10 @@
 -- The entries and the key links by computation: definitions that run, each proved to be what the papers define, of any accepted network.
--- The squares of costs are those of the rounds, so each cell is the cost of the best path over the links left in. The first interface
+-- The columns of costs are those of the rounds, so each entry is the cost of the best path over the links left in. The first interface
 -- of that path is the entry; the test on costs tells the key links one by one; and a packet is forwarded by the dearest of the detours
 -- that avoid one key link.
-use Prim.Native.Nat.{ℕ, zero, suc, _-_, _^_, _≤_, _<_}
+use Prim.Native.Nat.{ℕ, zero, suc, _^_, _≤_, _<_}
 use mathlib.Core.Bool.{Bool, true, false, not}
-use mathlib.Core.Path.{_≡_, refl}
+use mathlib.Core.Path.{_≡_, refl, _∙_}
 use mathlib.Core.Logic.{_≢_, _↔_}
 use mathlib.Core.List.{List}
 use native.Mathlib.Decide.{ℕ-discrete}
@@ -14,7 +14,7 @@ use lib.Bits.{bitOr}
 use lib.Dec.{eqb}
 use lib.ListN.{length, getD}
 use Rattle.graph.specs.Network.{Network, WellFormed, link, reverse, tail, head}
-use Rattle.graph.specs.Path.{All}
+use Rattle.graph.specs.Path.{All, But}
 use Rattle.graph.specs.Set.{SetOf}
 use Rattle.graph.specs.Entries.{Hop, here, onward, nowhere, Entry, at-destination}
 use Rattle.graph.specs.Entries.{KeyLink, RoutingEntry, ForwardingEntry, BackwardingEntry}
@@ -27,16 +27,18 @@ use Rattle.net.specs.Check.{Accepted}
 use Rattle.net.specs.Rows.{Rows, Present, networkOf}
 use Rattle.net.proofs.Rows.{row-present}
 use Rattle.net.proofs.Accepted.{well-formed}
-use Rattle.paths.specs.inner.Cost.{unknown, isKnown}
-use Rattle.paths.specs.inner.Square.{cell, Shows, BestSquare}
-use Rattle.paths.specs.inner.Rounds.{roundsOf, startSquare}
+use Rattle.net.specs.inner.LinkSet.{noLinks, withLink}
+use Rattle.paths.specs.inner.Cost.{unknown, hereCost, isKnown}
+use Rattle.paths.specs.inner.Column.{entryAt, Shows, BestColumn}
+use Rattle.paths.specs.inner.Rounds.{startColumn, settled, blanked}
 use Rattle.paths.specs.declared.cost.Cost.{Cost}
-use Rattle.paths.proofs.Cells.{hereCost}
-use Rattle.paths.proofs.BestSquare.{rounds-best, shows-all}
-use Rattle.paths.proofs.SquareEntry.{known-true, known-false, Tells, leads, leads-nowhere, shown-tells}
+use Rattle.paths.proofs.Columns.{start-long, settled-long}
+use Rattle.paths.proofs.BestColumn.{start-best, restarted-settled}
+use Rattle.paths.proofs.ColumnEntry.{known-true, known-false, Tells, leads, leads-nowhere, shown-tells}
+use Rattle.paths.proofs.ColumnEntry.{column-but, restarted-from-all}
 use Rattle.tables.specs.inner.KeyTest.{keyTest}
-use Rattle.tables.specs.inner.Detours.{aheadOf, noted, forwardCost, Dearest, no-key}
-use Rattle.tables.proofs.KeyTest.{key-test-by-squares, key-not-at-destination}
+use Rattle.tables.specs.inner.Detours.{noted, forwardCost, Dearest, no-key}
+use Rattle.tables.proofs.KeyTest.{key-test-by-columns, key-not-at-destination}
 use Rattle.tables.proofs.Detours.{noted-dearest}
 use Rattle.tables.proofs.Forwarding.{forward-tells}
 use Rattle.tables.proofs.Tests.{false-true}
@@ -46,15 +48,18 @@ unfoldable pub told : ℕ → ℕ → Cost → Hop
 told i d c = pick (eqb i d) here (pick (isKnown c) (onward (c .first)) nowhere)
 
 module _ (R : Rows) where
-  -- the costs without link `out`; over all links, where the number is no link's
-  abbrev pub squareBut : ℕ → List (List Cost)
-  squareBut out = roundsOf (R .nodes - 1) R out (startSquare (R .nodes))
+  -- the costs for one destination over all links, and without one of them
+  abbrev pub columnAll : ℕ → List Cost
+  columnAll d = settled R noLinks (startColumn d)
 
-  unfoldable pub costBut : ℕ → ℕ → ℕ → Cost
-  costBut out i d = cell (squareBut out) i d
+  abbrev pub columnBut : ℕ → ℕ → List Cost
+  columnBut k d = settled R (withLink noLinks k) (blanked (R .nodes) (withLink noLinks k) (columnAll d) .column)
 
   unfoldable pub costAll : ℕ → ℕ → Cost
-  costAll i d = costBut (length (R .low)) i d
+  costAll i d = entryAt (columnAll d) i
+
+  unfoldable pub costBut : ℕ → ℕ → ℕ → Cost
+  costBut k i d = entryAt (columnBut k d) i
 
   unfoldable pub routed : ℕ → ℕ → Hop
   routed d i = told i d (costAll i d)
@@ -78,7 +83,7 @@ module _ (R : Rows) where
   unfoldable pub keptBelow : ℕ → ℕ → ℕ → Cost
   keptBelow i d zero = hereCost
   keptBelow i d (suc k) =
-      noted i d (keptBelow i d k) (costAll i d) (costBut k i d) (costBut k (aheadOf (R .low) (R .high) i d (costAll i d)) d)
+      noted (keptBelow i d k) (costAll i d) (costBut k i d) (costBut k (head (networkOf R) (costAll i d .first)) d)
       (costBut k (getD (R .low) k 0) d) (costBut k (getD (R .high) k 0) d)
 
   unfoldable pub forwarded : ℕ → ℕ → Hop
@@ -110,24 +115,28 @@ module _ (R : Rows) (A : Accepted R) where
   W : WellFormed N
   W = well-formed R A
 
-  -- the costs are the cells of best squares
-  square-best : (out : ℕ) → BestSquare N out (squareBut R out)
-  square-best out = rounds-best A out (R .nodes - 1) (omega (arith, A .some-node))
-
-  shown-all : {i d : ℕ} → i < R .nodes → d < R .nodes → Shows N All i d (costAll R i d)
-  unfolding costAll costBut
-  shown-all {i} {d} node destination =
-      shows-all N W (length (R .low)) (omega arith) (square-best (length (R .low)) i d node destination)
-
   module _ (d : ℕ) (destination : d < R .nodes) where
+    -- the columns are best
+    all-best : BestColumn N All d (columnAll R d)
+    all-best = start-best (record { network = A; destination = destination })
+
+    but-best : (k : ℕ) → BestColumn N (But k) d (columnBut R k d)
+    but-best k =
+        let out = withLink noLinks k in
+        column-but N W (restarted-from-all N W out (restarted-settled A out (columnAll R d) (settled-long R noLinks (startColumn d) ∙ start-long d)) destination all-best)
+
+    shown-all : {i : ℕ} → i < R .nodes → Shows N All i d (costAll R i d)
+    unfolding costAll
+    shown-all {i} node = all-best .shows i node
+
     pub routed-entry : (i : ℕ) → i < R .nodes → RoutingEntry N d i (routed R d i)
     unfolding routed
-    routed-entry i node = told-shown N _ W (shown-all node destination)
+    routed-entry i node = told-shown N _ W (shown-all node)
 
     module _ (h : ℕ) (up : Present R (link h)) where
       pub backwarded-entry : BackwardingEntry N d h (backwarded R d h)
       unfolding backwarded costBut
-      backwarded-entry = told-shown N _ W (square-best (link h) (tail N h) d (tail-node N W h up) destination)
+      backwarded-entry = told-shown N _ W (but-best (link h) .shows (tail N h) (tail-node N W h up))
 
       -- the test with which the code finds key links, made away from the destination
       key-told : (k : ℕ) → k < length (R .low) → (isKey R d h k ≡ true) ↔ KeyLink N d h k
@@ -136,8 +145,8 @@ module _ (R : Rows) (A : Accepted R) where
           elim (ℕ-discrete (head N h) d) [
             | yes e ↦ rw (eq-eqb (head N h) d e) (λ t. absurd (false-true t), λ key. absurd (key-not-at-destination N W e key))
             | no away ↦ rw (ne-eqb (head N h) d away)
-                (key-test-by-squares R W (squareBut R (length (R .low))) (squareBut R k) (row-present R k present)
-                (square-best (length (R .low))) (square-best k) h up refl refl away destination)
+                (key-test-by-columns R W (columnAll R d) (columnBut R k d) (row-present R k present) all-best (but-best k) h up refl refl
+                away)
           ]
 
       -- one link more was tried
@@ -159,12 +168,11 @@ module _ (R : Rows) (A : Accepted R) where
     -- the links below k were tried
     kept-dearest : {i : ℕ} → i < R .nodes → i ≢ d → costAll R i d .sum < unknown → (k : ℕ) → k ≤ length (R .low)
         → Dearest N i d (reverse (costAll R i d .first)) k (keptBelow R i d k)
-    unfolding keptBelow costAll costBut
+    unfolding keptBelow costAll costBut hereCost
     kept-dearest node away known zero within = no-key refl (λ l below key. omega arith)
     kept-dearest {i} node away known (suc k) within =
-        noted-dearest R W (omega arith) (squareBut R (length (R .low))) (squareBut R k)
-        (square-best (length (R .low))) (square-best k) i d node destination away known (keptBelow R i d k)
-        (kept-dearest node away known k (omega arith))
+        noted-dearest R W (row-present R k (omega arith)) (columnAll R d) (columnBut R k d) all-best (but-best k) i node away known
+        (keptBelow R i d k) (kept-dearest node away known k (omega arith))
 
     pub forwarded-entry : (h : ℕ) → Present R (link h) → ForwardingEntry N d h (forwarded R d h)
     unfolding forwarded
@@ -173,7 +181,7 @@ module _ (R : Rows) (A : Accepted R) where
         elim (ℕ-discrete (head N h) d) [
           | yes e ↦ told-here N _ e
           | no away ↦ told-away N _ away
-              (forward-tells N W h away _ _ (shown-all node destination)
+              (forward-tells N W h away _ _ (shown-all node)
               (λ known. kept-dearest node away known (length (R .low)) (omega arith)))
         ]
 

@@ -23,11 +23,13 @@ use Rattle.plan.specs.Number.{groupsOf, stored, groupsFrom, numberAt}
 use Rattle.plan.specs.Reader.{refusal, takeWeight, weightAt, takeDifference, differenceAt, takeLow, linkAt, takeLink, linksRead}
 use Rattle.plan.specs.Reader.{takeLinkCount, linkCountAt, takeNodeCount, readPlan}
 use Rattle.plan.specs.declared.reader.Reading.{Reading}
-use Rattle.paths.specs.inner.Cost.{noCost, isKnown, before, extended, lesserOf}
-use Rattle.paths.specs.inner.Square.{cell}
-use Rattle.paths.specs.inner.Rounds.{put, offer, offersOf, roundFrom, roundOf, roundsOf, startFrom, startSquare}
-use Rattle.tables.specs.inner.KeyTest.{hasLink, keyTest}
-use Rattle.tables.specs.inner.Detours.{aheadOf, dearerOf, noted, forwardCost}
+use Rattle.net.specs.inner.LinkSet.{value as setValue, noLinks, withLink, hasLink, comesBefore, meeting}
+use Rattle.paths.specs.inner.Cost.{noCost, hereCost, isKnown, before, extended}
+use Rattle.paths.specs.inner.Column.{entryAt}
+use Rattle.paths.specs.inner.Rounds.{startColumn, offer, linkOffers, makesOffers, offeringFrom, offeringLinks, turnOf}
+use Rattle.paths.specs.inner.Rounds.{roundFrom, roundOf, roundsFrom, settled, blankFrom, blanked}
+use Rattle.tables.specs.inner.KeyTest.{crossesLink, keyTest}
+use Rattle.tables.specs.inner.Detours.{dearerOf, noted, forwardCost}
 use Rattle.tables.proofs.Tests.{both-true}
 use Rattle.sheet.specs.Sheet.{courseIn, planA, squarePlan, pairPlan}
 use Rattle.sheet.specs.Sheet.{Row, routes, keys, forwards, backwards, walks, stores, refuses, Holds, Every, none, more, rows}
@@ -134,8 +136,9 @@ pub bench-sheet : Every Holds rows
 unfolding rows allFit fits within given answered
     planA squarePlan pairPlan comesAfter badEnds badWeight outOfOrder linkFault linksFrom rowsDiffer badNodeCount checkNetwork
     link reverse byDirection tail head visits failedBy around stepBy endsBy crossing goesOn walkFrom walkOf byteOf
-    noCost isKnown before extended lesserOf cell put offer offersOf roundFrom roundOf roundsOf startFrom startSquare
-    hasLink keyTest aheadOf dearerOf noted forwardCost
+    setValue noLinks withLink hasLink comesBefore meeting noCost hereCost isKnown before extended entryAt
+    startColumn offer linkOffers makesOffers offeringFrom offeringLinks turnOf roundFrom roundOf roundsFrom settled blankFrom blanked
+    crossesLink keyTest dearerOf noted forwardCost
     told costBut costAll routed backwarded isKey keysBelow keptBelow forwarded computed
     groupsOf stored groupsFrom numberAt refusal takeWeight weightAt takeDifference differenceAt takeLow linkAt takeLink linksRead
     takeLinkCount linkCountAt takeNodeCount readPlan

@@ -8,12 +8,9 @@ use native.Mathlib.Numerals.{add-one}
 use native.Mathlib.Omega.{arith}
 use borrow.Rule.Slice.PartMut.{putMid, post-is}
 use lib.ListN.{length, getD}
-use Rattle.paths.specs.inner.Cost.{noCost}
 use Rattle.paths.specs.declared.cost.Cost.{Cost}
-use Rattle.paths.proofs.Shape.{within}
 use Rattle.tables.specs.Entry.{Filled}
 use Rattle.tables.specs.inner.EntryRow.{entryRow}
-use Rattle.tables.specs.inner.Detours.{forwardCost}
 use Rattle.tables.proofs.Filling.{filled-more, entry-row-length}
 
 -- where the next row starts
@@ -33,8 +30,3 @@ pub filled-row : {n rows : ℕ} {Byte : ℕ → ℕ → ℕ → Type 0} {before 
 filled-row {n} {rows} {after = after} F place room low high i costs right is =
     rw (place, is, add-one rows, post-is (rows * n) (rows * n + n) after (omega arith))
     (filled-more F (omega (arith, suc-mul rows n)) (entryRow n low high i 0 costs) (entry-row-length low high i costs n 0) right)
-
--- the costs to forward by, read off two rows of a square
-pub forward-read : (h d : ℕ) (whole kept : List Cost) → d < length whole → d < length kept → (past : Cost) {c : Cost}
-    → c ≡ forwardCost h (getD whole d past) (getD kept d past) → c ≡ forwardCost h (getD whole d noCost) (getD kept d noCost)
-forward-read h d whole kept in-whole in-kept past is = cc (within whole d past noCost in-whole, within kept d past noCost in-kept)

@@ -1,5 +1,6 @@
 -- Keeping the dearest detour. Trying one link more leaves what is kept unless the link is key; then the dearer of the two is kept, and
--- it is as dear as every detour so far, since costs are compared as pairs, first part first, which is a total order.
+-- it is as dear as every detour so far, since costs are compared as pairs, first part first, which is a total order. A link that is not
+-- on the node's own best path is not key, so that what is kept stays without any trying.
 use Prim.Native.Nat.{ℕ, suc, _≤_, _<_}
 use mathlib.Core.Bool.{Bool, true, false}
 use mathlib.Core.Path.{_≡_, refl, sym, ap, _∙_}
@@ -7,10 +8,9 @@ use mathlib.Core.Logic.{_⊎_, inl, inr, _≢_, _↔_}
 use mathlib.Core.List.{List, [], _∷_}
 use native.Mathlib.Decide.{ℕ-discrete, decLt}
 use native.Mathlib.Omega.{arith}
-use borrow.Author.Tests.{ne-eqb}
-use lib.ListN.{length, getD, replicate, getD-replicate}
-use Rattle.graph.specs.Network.{Network, WellFormed, link, reverse, tail, head}
-use Rattle.graph.specs.Path.{BestPath, But, weightSum}
+use lib.ListN.{getD, replicate, getD-replicate}
+use Rattle.graph.specs.Network.{Network, WellFormed, link, reverse, head}
+use Rattle.graph.specs.Path.{BestPath, All, But, weightSum}
 use Rattle.graph.specs.Set.{linkSet}
 use Rattle.graph.specs.Entries.{KeyLink}
 use Rattle.graph.proofs.Interfaces.{link-reverse, tail-reverse, head-reverse}
@@ -18,23 +18,22 @@ use Rattle.graph.proofs.Chain.{Best, best-after, first-present, first-tail}
 use Rattle.graph.proofs.Agreement.{path-best, best-path}
 use Rattle.net.specs.Limits.{mostNodes}
 use Rattle.net.specs.Choice.{pick}
-use Rattle.net.specs.Rows.{Rows, networkOf}
-use Rattle.net.proofs.Rows.{row-present, head-of}
-use Rattle.net.proofs.Accepted.{well-formed}
-use Rattle.paths.specs.inner.Cost.{unknown, noCost, before}
-use Rattle.paths.specs.inner.Square.{cell, Shows, BestSquare}
+use Rattle.net.specs.Rows.{Rows, Present, networkOf}
+use Rattle.net.specs.inner.LinkSet.{value}
+use Rattle.paths.specs.inner.Cost.{unknown, noCost, hereCost}
+use Rattle.paths.specs.inner.Column.{entryAt, Shows, BestColumn}
+use Rattle.paths.specs.inner.Square.{columnFor, cell}
 use Rattle.paths.specs.declared.cost.Cost.{Cost}
 use Rattle.paths.proofs.CostNumber.{Lower, before?}
-use Rattle.paths.proofs.BestSquare.{shows-all}
-use Rattle.paths.proofs.SquareEntry.{known-true, shown-best, shown-onward, weighs-something}
-use Rattle.tables.specs.inner.KeyTest.{keyTest}
-use Rattle.tables.specs.inner.Detours.{aheadOf, dearerOf, noted, Dearest, no-key, dearest, noDetours, Detours}
-use Rattle.tables.specs.inner.Given.{Trying}
-use Rattle.tables.proofs.KeyTest.{key-test-by-squares}
+use Rattle.paths.proofs.ColumnEntry.{shown-best, shown-onward, weighs-something}
+use Rattle.tables.specs.inner.KeyTest.{crossesLink}
+use Rattle.tables.specs.inner.Detours.{dearerOf, noted, Dearest, no-key, dearest, noDetours, AllDetours}
+use Rattle.tables.proofs.Tests.{false-true}
+use Rattle.tables.proofs.KeyTest.{key-test-by-columns, key-crossed}
 
 -- the pair of a sum and a set is not above the cost
 abbrev pub Within : ℕ → ℕ → Cost → Type 0
-Within sum set c = (sum < c .sum) ⊎ ((sum ≡ c .sum) × (set ≤ c .links))
+Within sum set c = (sum < c .sum) ⊎ ((sum ≡ c .sum) × (set ≤ value (c .links)))
 
 within-lower : {sum set : ℕ} (a b : Cost) → Within sum set a → Lower a b → Within sum set b
 within-lower a b (inl h) (inl l) = inl (omega arith)
@@ -50,7 +49,7 @@ within-not-lower a b h not-lower =
         | yes g ↦ absurd (not-lower (inl g))
         | no g ↦
             let e : a .sum ≡ b .sum = omega arith in
-            elim (decLt (a .links) (b .links)) [
+            elim (decLt (value (a .links)) (value (b .links))) [
               | yes s ↦ absurd (not-lower (inr (e, s)))
               | no s ↦ elim h [ inl t ↦ inl (omega arith) | inr (q, t) ↦ inr (q ∙ sym e, omega arith) ]
             ]
@@ -117,66 +116,52 @@ module _ (N : Network) (W : WellFormed N) {i d h k : ℕ} where
     dearest-more : {kept : Cost} (test : Bool) → (test ≡ true) ↔ KeyLink N d h k → head N h ≡ i → Dearest N i d h k kept
         → Dearest N i d h (suc k) (pick test (dearerOf kept after) kept)
     dearest-more true tells is D = passed-key is (tells .0 refl) D
-    dearest-more false tells is D = passed-free (λ key. let z : _≡_ {A = ℕ} 0 1 = cc (tells .1 key) in omega arith) D
+    dearest-more false tells is D = passed-free (λ key. false-true (tells .1 key)) D
 
 -- before any link is tried
-start-cell : (most i d : ℕ) (c : Cost) → i < most → d < most → cell (replicate most (replicate most c)) i d ≡ c
-unfolding cell
-start-cell most i d c hi hd = rw (getD-replicate most i (replicate most c) [] hi) (getD-replicate most d c noCost hd)
+start-cell : (i d : ℕ) → i < mostNodes → d < mostNodes → cell noDetours i d ≡ hereCost
+unfolding noDetours columnFor entryAt
+start-cell i d hi hd =
+    rw (getD-replicate mostNodes d (replicate mostNodes hereCost) [] hd) (getD-replicate mostNodes i hereCost noCost hi)
 
-pub detours-start : (N : Network) → N .nodes ≤ mostNodes → (all : List (List Cost)) → Detours N 0 all noDetours
-unfolding noDetours
-detours-start N few all i d hi hd away known =
-    no-key (ap (λ (c : Cost). c .sum) (start-cell mostNodes i d _ (omega arith) (omega arith))) (λ l below key. omega arith)
+pub detours-start : (N : Network) → N .nodes ≤ mostNodes → (all : List (List Cost)) → AllDetours N 0 all noDetours
+unfolding hereCost
+detours-start N few all d hd i hi away known =
+    no-key (ap (λ (c : Cost). c .sum) (start-cell i d (omega arith) (omega arith))) (λ l below key. omega arith)
 
--- what is noted away from the destination is decided by the test alone
-noted-away : (i d : ℕ) (kept whole after ahead one other : Cost) → i ≢ d
-    → noted i d kept whole after ahead one other
-    ≡ pick (keyTest (reverse (whole .first)) whole after ahead one other) (dearerOf kept after) kept
-unfolding noted
-noted-away i d kept whole after ahead one other away = simp (ne-eqb i d away)
+-- what is kept of i, by the columns over all links and without link k, after that was tried
+abbrev pub noting : Rows → ℕ → List Cost → List Cost → ℕ → Cost → Cost
+noting R k all without i kept =
+    noted kept (entryAt all i) (entryAt without i) (entryAt without (head (networkOf R) (entryAt all i .first)))
+    (entryAt without (getD (R .low) k 0)) (entryAt without (getD (R .high) k 0))
 
--- what is kept of i and d, by the two squares, after link k was tried
-abbrev pub noting : Rows → ℕ → List (List Cost) → List (List Cost) → ℕ → ℕ → Cost → Cost
-noting R k all without i d kept =
-    noted i d kept (cell all i d) (cell without i d) (cell without (aheadOf (R .low) (R .high) i d (cell all i d)) d)
-    (cell without (getD (R .low) k 0) d) (cell without (getD (R .high) k 0) d)
+module _ (R : Rows) (W : WellFormed (networkOf R)) {d k : ℕ} (present : Present R k) (all without : List Cost)
+    (whole : BestColumn (networkOf R) All d all) (less : BestColumn (networkOf R) (But k) d without) where
+  abbrev N : Network
+  N = networkOf R
 
-module _ (R : Rows) where
-  open Rows R using (nodes as n, low, high)
+  module _ (i : ℕ) (node : i < R .nodes) (away : i ≢ d) (known : entryAt all i .sum < unknown) where
+    -- the first interface of i's best path, and the one by which the node after i would send back
+    abbrev f : ℕ
+    f = entryAt all i .first
 
-  -- the node after i is the one that its first interface enters
-  pub ahead-is : (i d : ℕ) (c : Cost) → i ≢ d → c .sum < unknown → aheadOf low high i d c ≡ head (networkOf R) (c .first)
-  unfolding aheadOf
-  ahead-is i d c away known = simp (ne-eqb i d away, known-true c .1 known) (sym (head-of R (c .first)))
+    leads : (p : List ℕ) × Best N All i (f ∷ p) d
+    leads = let (p, m) = shown-onward N W (whole .shows i node) away known in (p, m .best)
 
-  -- one link more, for one node and destination
-  pub noted-dearest : WellFormed (networkOf R) → {k : ℕ} → k < length low → (all without : List (List Cost))
-      → BestSquare (networkOf R) (length low) all → BestSquare (networkOf R) k without
-      → (i d : ℕ) → i < n → d < n → i ≢ d → cell all i d .sum < unknown → (c : Cost)
-      → Dearest (networkOf R) i d (reverse (cell all i d .first)) k c
-      → Dearest (networkOf R) i d (reverse (cell all i d .first)) (suc k) (noting R k all without i d c)
-  noted-dearest W {k} present all without whole less i d node destination away known c D =
-      let N = networkOf R in
-      let shown = shows-all N W (length low) (omega arith) (whole i d node destination) in
-      let (p, m) = shown-onward N W shown away known in
-      let f = cell all i d .first in
-      let up : N .Present (link f) = first-present N (m .best .chain) in
-      let enters : head N (reverse f) ≡ i = head-reverse N f ∙ first-tail N (m .best .chain) in
-      let leaves : tail N (reverse f) ≡ aheadOf low high i d (cell all i d) =
-      tail-reverse N f ∙ sym (ahead-is i d (cell all i d) away known) in
-      let tells =
-      key-test-by-squares R W all without (row-present R k present) whole less (reverse f) (rw (link-reverse f) up)
-      enters leaves away destination in
-      rw (noted-away i d c (cell all i d) (cell without i d) (cell without (aheadOf low high i d (cell all i d)) d)
-      (cell without (getD low k 0) d) (cell without (getD high k 0) d) away)
-      (dearest-more N W (less i d node destination) away _ tells enters D)
+    enters : head N (reverse f) ≡ i
+    enters = head-reverse N f ∙ first-tail N (leads .1 .chain)
 
-  -- one link more, for all of them
-  pub detours-more : {k : ℕ} {all without kept : List (List Cost)} → Trying R k all without kept → (next : List (List Cost))
-      → ((i d : ℕ) → i < n → d < n → cell next i d ≡ noting R k all without i d (cell kept i d))
-      → Detours (networkOf R) (suc k) all next
-  detours-more {all = all} {without = without} {kept = kept} G next changed i d node destination away known =
-      rw (changed i d node destination)
-      (noted-dearest (well-formed R (G .network)) (G .row) all without (G .square) (G .square-without) i d node destination away known
-      (cell kept i d) (G .detours i d node destination away known))
+    -- one link more
+    pub noted-dearest : (c : Cost) → Dearest N i d (reverse f) k c → Dearest N i d (reverse f) (suc k) (noting R k all without i c)
+    unfolding noted
+    noted-dearest c D =
+        let up : N .Present (link (reverse f)) = rw (link-reverse f) (first-present N (leads .1 .chain)) in
+        let tells = key-test-by-columns R W all without present whole less (reverse f) up enters (tail-reverse N f) away in
+        dearest-more N W (less .shows i node) away _ tells enters D
+
+    -- one link more, which i's best path does not cross
+    pub passed-dearest : (c : Cost) → crossesLink (entryAt all i) k ≡ false → Dearest N i d (reverse f) k c
+        → Dearest N i d (reverse f) (suc k) c
+    passed-dearest c uncrossed D =
+        let shown : Shows N All (head N (reverse f)) d (entryAt all i) = rw enters (whole .shows i node) in
+        passed-free N W (λ key. false-true (sym uncrossed ∙ key-crossed N W shown key)) D

@@ -8,9 +8,9 @@ use native.Mathlib.Numerals.{add-one}
 use native.Mathlib.Omega.{arith}
 use lib.ListN.{length, getD, take, set}
 use lib.Seq.{take-all, take-suc-set}
-use Rattle.paths.specs.inner.Cost.{noCost}
+use Rattle.paths.specs.inner.Column.{entryAt}
 use Rattle.paths.specs.declared.cost.Cost.{Cost}
-use Rattle.paths.proofs.Shape.{within}
+use Rattle.paths.proofs.Shape.{read-at}
 use Rattle.tables.specs.inner.EntryRow.{entryByte, entryRow}
 
 module _ (n : ℕ) (low high : List ℕ) (i : ℕ) (costs : List Cost) (row : List ℕ) where
@@ -33,6 +33,6 @@ pub row-on : (n : ℕ) (low high : List ℕ) (i : ℕ) (costs : List Cost) (row 
 unfolding entryRow
 row-on n low high i costs row d byte past long h inside e =
     let more : n - d ≡ suc (n - suc d) = omega arith in
-    let is : entryByte low high i d (getD costs d noCost) ≡ byte =
-    ap (entryByte low high i d) (within costs d noCost past inside) ∙ sym e in
+    let is : entryByte low high i d (entryAt costs d) ≡ byte =
+    sym (e ∙ ap (entryByte low high i d) (read-at costs d inside past)) in
     rw (add-one, more, is, take-suc-set row d byte (omega arith), append-assoc) refl

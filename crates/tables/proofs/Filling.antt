@@ -8,7 +8,7 @@ use native.Mathlib.Decide.{ℕ-discrete, decLt}
 use native.Mathlib.Omega.{arith}
 use lib.ListN.{length, getD, take, drop, length-append, length-drop, List·getD-append}
 use lib.Seq.{length-take-le, getD-take, getD-drop, getD-append-add, drop-at, drop-drop, ext-getD}
-use Rattle.paths.specs.inner.Cost.{noCost}
+use Rattle.paths.specs.inner.Column.{entryAt}
 use Rattle.paths.specs.declared.cost.Cost.{Cost}
 use Rattle.tables.specs.Entry.{Filled}
 use Rattle.tables.specs.inner.EntryRow.{entryByte, entryRow}
@@ -87,8 +87,8 @@ module _ (low high : List ℕ) (i : ℕ) (costs : List Cost) where
   entry-row-length zero d = refl
   entry-row-length (suc left) d = ap suc (entry-row-length left (suc d))
 
-  pub entry-row-from : (left d e : ℕ) → e < left
-      → getD (entryRow left low high i d costs) e 0 ≡ entryByte low high i (d + e) (getD costs (d + e) noCost)
+  entry-row-from : (left d e : ℕ) → e < left
+      → getD (entryRow left low high i d costs) e 0 ≡ entryByte low high i (d + e) (entryAt costs (d + e))
   unfolding entryRow
   entry-row-from zero d e h = absurd (omega arith)
   entry-row-from (suc left) d zero h = rw (add-zero d)
@@ -96,5 +96,5 @@ module _ (low high : List ℕ) (i : ℕ) (costs : List Cost) where
       let place : suc d + e ≡ d + suc e = omega arith in
       rw (← place) (entry-row-from left (suc d) e (omega arith))
 
-  pub entry-row-at : {n d : ℕ} → d < n → getD (entryRow n low high i 0 costs) d 0 ≡ entryByte low high i d (getD costs d noCost)
+  pub entry-row-at : {n d : ℕ} → d < n → getD (entryRow n low high i 0 costs) d 0 ≡ entryByte low high i d (entryAt costs d)
   entry-row-at {n} {d} h = rw (zero-add d) at (entry-row-from n 0 d h)

@@ -20,10 +20,11 @@ use Rattle.graph.proofs.Agreement.{path-best, best-path}
 use Rattle.graph.proofs.Keys.{over-all}
 use Rattle.graph.proofs.Entries.{best-entry, forwarding-by-routing, elsewhere-has-no-key}
 use Rattle.graph.proofs.Dearest.{dearest-is-free}
+use Rattle.net.specs.inner.LinkSet.{value}
 use Rattle.paths.specs.inner.Cost.{unknown, isKnown}
-use Rattle.paths.specs.inner.Square.{Shows}
+use Rattle.paths.specs.inner.Column.{Shows}
 use Rattle.paths.specs.declared.cost.Cost.{Cost}
-use Rattle.paths.proofs.SquareEntry.{known-true, Tells, leads, leads-nowhere, shown-unknown, shown-onward, weighs-something}
+use Rattle.paths.proofs.ColumnEntry.{known-true, Tells, leads, leads-nowhere, shown-unknown, shown-onward, weighs-something}
 use Rattle.tables.specs.inner.Detours.{forwardCost, Dearest, no-key, dearest}
 use Rattle.tables.proofs.Detours.{Within}
 
@@ -49,7 +50,7 @@ module _ (h : ℕ) (whole kept : Cost) where
 
 module _ (N : Network) (W : WellFormed N) where
   -- a detour that is not dearer as a pair does not cost more
-  within-cost : {X Y : ℕ → Type 0} {i j d : ℕ} {p q : List ℕ} (c : Cost) → c .sum ≡ weightSum N p → c .links ≡ linkSet p
+  within-cost : {X Y : ℕ → Type 0} {i j d : ℕ} {p q : List ℕ} (c : Cost) → c .sum ≡ weightSum N p → value (c .links) ≡ linkSet p
       → Best N X i p d → Best N Y j q d → Within (weightSum N q) (linkSet q) c → cost N q ≤ cost N p
   within-cost {p = p} {q = q} c sum set s t within =
       let few-p = set-below N (links-once N W (simple N W s)) in
@@ -59,7 +60,7 @@ module _ (N : Network) (W : WellFormed N) where
   module _ {d : ℕ} (h : ℕ) (away : head N h ≢ d) where
     -- the dearest detour is the best path without all key links
     dearest-entry : {k f : ℕ} {p : List ℕ} (c : Cost) → KeyLink N d h k → BestPath N (But k) (head N h) (f ∷ p) d
-        → c .sum ≡ weightSum N (f ∷ p) → c .links ≡ linkSet (f ∷ p)
+        → c .sum ≡ weightSum N (f ∷ p) → value (c .links) ≡ linkSet (f ∷ p)
         → ((l g : ℕ) (q : List ℕ) → l < N .links → KeyLink N d h l → BestPath N (But l) (head N h) (g ∷ q) d
         → Within (weightSum N (g ∷ q)) (linkSet (g ∷ q)) c)
         → Entry N (Free N d h) (head N h) d (onward f)

@@ -1,7 +1,8 @@
 pub mod Tests
+pub mod Reading
 pub mod KeyTest
-pub mod KeySteps
 pub mod KeyLoop
+pub mod KeyVerdicts
 pub mod EntryRows
 pub mod RowLookup
 pub mod Detours

@@ -1,116 +1,125 @@
--- Noting one more link for every node and destination. The code goes over a square entry by entry, row by row: the entries passed are
--- changed, and the others are as they were, so that each is changed once and from what it was. The node after i is a row of the square:
--- a known entry away from the destination starts with an interface, whose head is a node; and else it is 0.
-use Prim.Native.Nat.{ℕ, _+_, _≤_, _<_}
-use mathlib.Core.Path.{_≡_, refl, ap, _∙_}
-use mathlib.Core.Logic.{_⊎_, inl, inr}
-use mathlib.Core.List.{List, []}
-use native.Mathlib.Decide.{ℕ-discrete, decLt}
+-- Noting one more link for every node: the code goes over what is kept place by place, so that the places passed hold the detours with
+-- the link tried, and the others what was kept. Where the node's best path crosses the link, that path leads on, so that the node after
+-- it is a place of the column; where it does not, what is kept stays.
+use Prim.Native.Nat.{ℕ, suc, _+_, _≤_, _<_}
+use mathlib.Core.Bool.{true, false}
+use mathlib.Core.Path.{_≡_, refl, _∙_}
+use mathlib.Core.Logic.{_≢_}
+use mathlib.Core.List.{List}
+use native.Mathlib.Decide.{ℕ-discrete}
 use native.Mathlib.Omega.{arith}
-use borrow.Author.Tests.{eq-eqb, ne-eqb}
-use lib.ListN.{getD}
+use lib.ListN.{length, getD, set, length-set}
+use lib.Seq.{getD-set-same, getD-set-other}
+use Rattle.graph.specs.Network.{Network, WellFormed, reverse}
 use Rattle.graph.proofs.Interfaces.{head-node}
 use Rattle.graph.proofs.Chain.{first-present}
 use Rattle.net.specs.Limits.{mostNodes}
-use Rattle.net.specs.Rows.{Rows, networkOf}
-use Rattle.net.specs.Check.{Accepted}
+use Rattle.net.specs.Rows.{Rows, Present, networkOf, headOf}
 use Rattle.net.proofs.Accepted.{well-formed}
-use Rattle.paths.specs.inner.Cost.{unknown}
-use Rattle.paths.specs.inner.Square.{cell, Shows}
-use Rattle.paths.specs.inner.Rounds.{put}
+use Rattle.net.proofs.Rows.{row-present, head-of}
+use Rattle.paths.specs.inner.Cost.{unknown, noCost}
+use Rattle.paths.specs.inner.Column.{entryAt}
 use Rattle.paths.specs.declared.cost.Cost.{Cost}
-use Rattle.paths.proofs.Cells.{Shaped, put-shaped, put-here, put-elsewhere, put-other-column}
-use Rattle.paths.proofs.Shape.{read-cell}
-use Rattle.paths.proofs.SquareEntry.{known-false, shown-onward}
-use Rattle.tables.specs.inner.Detours.{aheadOf, noted}
-use Rattle.tables.proofs.Detours.{ahead-is, noting}
+use Rattle.paths.proofs.ColumnEntry.{shown-onward}
+use Rattle.tables.specs.inner.KeyTest.{crossesLink}
+use Rattle.tables.specs.inner.Detours.{noted, Dearest, Detours}
+use Rattle.tables.specs.inner.Given.{Trying}
+use Rattle.tables.proofs.Tests.{crosses-true}
+use Rattle.tables.proofs.Reading.{read-node}
+use Rattle.tables.proofs.KeyTest.{crossed-apart}
+use Rattle.tables.proofs.Detours.{noting, noted-dearest, passed-dearest}
 
--- what the code makes of an entry of i and d
-abbrev Change : Type 0
-Change = ℕ → ℕ → Cost → Cost
+-- the places before i hold the detours with link k tried, the others what was kept
+pub record NotedBelow (N : Network) (d k : ℕ) (all kept : List Cost) (i : ℕ) (next : List Cost) : Type 0 where
+  pub long : length next ≡ mostNodes
+  pub passed : (a : ℕ) → a < i → a < N .nodes → a ≢ d → entryAt all a .sum < unknown
+      → Dearest N a d (reverse (entryAt all a .first)) (suc k) (entryAt next a)
+  pub left : (a : ℕ) → i ≤ a → entryAt next a ≡ entryAt kept a
 
--- the entries before i and d in order, in n columns, are changed, those from there on are not
-pub record Changed (change : Change) (n : ℕ) (old : List (List Cost)) (i d : ℕ) (new : List (List Cost)) : Type 0 where
-  pub shaped : Shaped new
-  pub passed : (a b : ℕ) → b < n → (a < i) ⊎ ((a ≡ i) × (b < d)) → cell new a b ≡ change a b (cell old a b)
-  pub left : (a b : ℕ) → (i < a) ⊎ ((a ≡ i) × (d ≤ b)) → cell new a b ≡ cell old a b
+pub noted-start : {N : Network} {d k : ℕ} {all kept : List Cost} → length kept ≡ mostNodes → NotedBelow N d k all kept 0 kept
+noted-start long = record { long = long; passed = λ a h. absurd (omega arith); left = λ a h. refl }
 
-module _ {change : Change} {n : ℕ} {old : List (List Cost)} where
-  pub changed-start : Shaped old → Changed change n old 0 0 old
-  changed-start shaped =
+pub noted-done : {N : Network} {d k i : ℕ} {all kept next : List Cost} → N .nodes ≤ i → NotedBelow N d k all kept i next
+    → Detours N d (suc k) all next
+noted-done end D i node = D .passed i (omega arith) node
+
+module _ {R : Rows} {d k : ℕ} {all without kept : List Cost} (G : Trying R d k all without kept) where
+  open Rows R using (nodes as n, low, high)
+
+  abbrev N : Network
+  N = networkOf R
+
+  W : WellFormed N
+  W = well-formed R (G .network)
+
+  present : Present R k
+  present = row-present R k (G .row)
+
+  -- one place more, whatever is stored in it
+  noted-more : (i : ℕ) → i < n → {next after : List Cost} → NotedBelow N d k all kept i next → length after ≡ mostNodes
+      → ((a : ℕ) → a ≢ i → entryAt after a ≡ entryAt next a)
+      → (i ≢ d → entryAt all i .sum < unknown → Dearest N i d (reverse (entryAt all i .first)) k (entryAt kept i)
+      → Dearest N i d (reverse (entryAt all i .first)) (suc k) (entryAt after i))
+      → NotedBelow N d k all kept (i + 1) after
+  noted-more i node {after = after} D long others here =
       record {
-        shaped = shaped;
-        passed = λ a b h p. elim p [ inl l ↦ absurd (omega arith) | inr l ↦ absurd (omega arith) ];
-        left = λ a b p. refl;
+        long = long;
+        passed = λ a h below away known. elim (ℕ-discrete a i) [
+          | yes e ↦ at-place a e away known
+          | no other ↦ rw (others a other) (D .passed a (omega arith) below away known)
+        ];
+        left = λ a h. others a (λ e. omega arith) ∙ D .left a (omega arith);
       }
+    where
+      at-place : (a : ℕ) → a ≡ i → a ≢ d → entryAt all a .sum < unknown
+          → Dearest N a d (reverse (entryAt all a .first)) (suc k) (entryAt after a)
+      at-place a e = rw e (λ away known. here away known (G .detours i node away known))
 
-  module _ {i : ℕ} {new : List (List Cost)} where
-    -- one row more
-    pub changed-row : Changed change n old i n new → Changed change n old (i + 1) 0 new
-    changed-row C =
-        record {
-          shaped = C .shaped;
-          passed = λ a b h p. elim (ℕ-discrete a i) [
-            | yes e ↦ C .passed a b h (inr (e, h))
-            | no e ↦ C .passed a b h (inl (elim p [ inl l ↦ omega arith | inr l ↦ absurd (omega arith) ]))
-          ];
-          left = λ a b p. C .left a b (inl (elim p [ inl l ↦ omega arith | inr l ↦ omega arith ]));
-        }
+  -- what the code reads
+  module _ (all-long : length all ≡ mostNodes) (i : ℕ) (node : i < n) (past : Cost) where
+    read : (column : List Cost) → length column ≡ mostNodes → {i u : ℕ} → i ≡ u → u < n → getD column i past ≡ entryAt column u
+    read = read-node (G .network .few-nodes) past
 
-    -- one entry more
-    pub changed-more : {d : ℕ} {c : Cost} → Changed change n old i d new → i < mostNodes → d < mostNodes → c ≡ change i d (cell new i d)
-        → Changed change n old i (d + 1) (put new i d c)
-    changed-more {d} {c} C row column is =
-        record {
-          shaped = put-shaped new (C .shaped) i row d c;
-          passed = λ a b h p. elim (ℕ-discrete a i) [
-            | no other ↦
-                put-elsewhere new (C .shaped) i row d c a b other
-                ∙ C .passed a b h (inl (elim p [ inl l ↦ l | inr l ↦ absurd (other (l .0)) ]))
-            | yes e ↦ elim (ℕ-discrete b d) [
-              | no other ↦
-                  put-other-column new (C .shaped) i row d c a b other
-                  ∙ C .passed a b h (elim p [ inl l ↦ inl l | inr l ↦ inr (l .0, omega arith) ])
-              | yes q ↦
-                  rw (e, q) (put-here new (C .shaped) i row d c column ∙ is ∙ ap (change i d) (C .left i d (inr (refl, omega arith))))
-            ]
-          ];
-          left = λ a b p. elim p [
-            | inl l ↦ put-elsewhere new (C .shaped) i row d c a b (λ e. omega arith) ∙ C .left a b (inl l)
-            | inr l ↦ put-other-column new (C .shaped) i row d c a b (λ e. omega arith) ∙ C .left a b (inr (l .0, omega arith))
-          ];
-        }
+    whole-is : getD all i past ≡ entryAt all i
+    whole-is = read all all-long refl node
 
--- the node ahead is a row of the squares
-pub ahead-node : (R : Rows) → Accepted R → {X : ℕ → Type 0} {i d : ℕ} {c : Cost} → Shows (networkOf R) X i d c
-    → aheadOf (R .low) (R .high) i d c < R .nodes
-unfolding aheadOf
-ahead-node R A {i = i} {d = d} {c = c} shown =
-    elim (ℕ-discrete i d) [
-      | yes e ↦ rw (eq-eqb i d e) (A .some-node)
-      | no away ↦ elim (decLt (c .sum) unknown) [
-        | no lost ↦ rw (ne-eqb i d away, known-false c .1 (omega arith)) (A .some-node)
-        | yes known ↦
-            let N = networkOf R in
-            let W = well-formed R A in
-            let (p, m) = shown-onward N W shown away known in
-            rw (ahead-is R i d c away known) (head-node N W (c .first) (first-present N (m .best .chain)))
-      ]
-    ]
+    -- i's best path does not cross the link
+    pub noted-uncrossed : {next : List Cost} → NotedBelow N d k all kept i next → crossesLink (getD all i past) k ≡ false
+        → NotedBelow N d k all kept (i + 1) next
+    noted-uncrossed D uncrossed =
+        noted-more i node D (D .long) (λ a other. refl)
+        (λ away known old. rw (D .left i (omega arith))
+        (passed-dearest R W present all without (G .column) (G .column-without) i node away known (entryAt kept i)
+        (rw whole-is at uncrossed) old))
 
--- The code reads the entries at i and d, at the node ahead and at the two ends of the link, all of them rows of the squares. `past` is
--- what a read past an array's end would give.
-pub noted-read : (R : Rows) (k : ℕ) (all without next : List (List Cost)) → Shaped all → Shaped without → Shaped next
-    → (i d : ℕ) {j x y : ℕ} → i < mostNodes → d < mostNodes → j < mostNodes → x < mostNodes → y < mostNodes → (past : Cost) {c : Cost}
-    → j ≡ aheadOf (R .low) (R .high) i d (getD (getD all i []) d past) → x ≡ getD (R .low) k 0 → y ≡ getD (R .high) k 0
-    → c ≡ noted i d (getD (getD next i []) d past) (getD (getD all i []) d past) (getD (getD without i []) d past)
-    (getD (getD without j []) d past) (getD (getD without x []) d past) (getD (getD without y []) d past)
-    → c ≡ noting R k all without i d (cell next i d)
-noted-read R k all without next sa sw sn i d {j} {x} {y} row column ahead one other past is-ahead is-one is-other is =
-    let whole = read-cell all sa i d row column past in
-    let old = read-cell next sn i d row column past in
-    let after = read-cell without sw i d row column past in
-    let at-ahead = read-cell without sw j d ahead column past in
-    let at-one = read-cell without sw x d one column past in
-    let at-other = read-cell without sw y d other column past in
-    cc
+    module _ (crosses : crossesLink (getD all i past) k ≡ true) where
+      -- it does, so that it leads on to a node
+      pub ahead-node : headOf low high (getD all i past .first) < n
+      ahead-node =
+          let shown = G .column .shows i node in
+          let crosses₂ : crossesLink (entryAt all i) k ≡ true = rw whole-is at crosses in
+          let (p, m) = shown-onward N W shown (crossed-apart N W shown k crosses₂) (crosses-true (entryAt all i) k .0 crosses₂ .0) in
+          let f = entryAt all i .first in
+          rw (whole-is, ← head-of R f) (head-node N W f (first-present N (m .best .chain)))
+
+      -- the entries of i, of the node after it and of the link's two ends
+      pub noted-crossed : {next : List Cost} → NotedBelow N d k all kept i next → length without ≡ mostNodes
+          → {j x y : ℕ} → j ≡ headOf low high (getD all i past .first) → x ≡ getD low k 0 → y ≡ getD high k 0
+          → {c : Cost} → c ≡ noted (getD next i past) (getD all i past) (getD without i past) (getD without j past)
+          (getD without x past) (getD without y past)
+          → NotedBelow N d k all kept (i + 1) (set next i c)
+      unfolding entryAt
+      noted-crossed {next} D without-long {j} {x} {y} is-ahead is-low is-high {c} is =
+          noted-more i node D (length-set next i c ∙ D .long) (λ a other. getD-set-other next i a c noCost other)
+          (λ away known old. rw (getD-set-same next i c noCost (omega (arith, D .long, G .network .few-nodes)), stored)
+          (noted-dearest R W present all without (G .column) (G .column-without) i node away known (entryAt kept i) old))
+        where
+          stored : c ≡ noting R k all without i (entryAt kept i)
+          stored =
+              let kept-is = read next (D .long) refl node ∙ D .left i (omega arith) in
+              let after-is = read without without-long refl node in
+              let ahead-is = read without without-long is-ahead ahead-node in
+              let one-is = read without without-long is-low (W .low-node k present) in
+              let other-is = read without without-long is-high (W .high-node k present) in
+              let next-node = head-of R (entryAt all i .first) in
+              cc whole-is

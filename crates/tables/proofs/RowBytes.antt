@@ -1,60 +1,62 @@
--- Each row that the code fills has the right bytes: a routing row by the square of all links, the two backwarding rows of a link by the
+-- Each row that the code fills has the right bytes: a routing row by the square over all links, the two backwarding rows of a link by the
 -- square without it, a forwarding row by the costs to forward by. A row is made of its bytes, so this is Bytes, destination by
 -- destination.
 use Prim.Native.Nat.{ℕ, _+_, _*_, _<_}
-use mathlib.Core.Path.{_≡_}
-use mathlib.Core.List.{List, []}
+use mathlib.Core.Path.{_≡_, sym, _∙_}
+use mathlib.Core.List.{List}
 use lib.ListN.{length, getD}
-use Rattle.graph.specs.Network.{link, head}
+use Rattle.graph.specs.Network.{link, tail, head}
+use Rattle.graph.specs.Path.{All, But}
+use Rattle.graph.proofs.Interfaces.{link-from-low, link-from-high, tail-from-low, tail-from-high}
 use Rattle.net.specs.Rows.{Rows, Present, networkOf}
 use Rattle.net.specs.Check.{Accepted}
-use Rattle.paths.specs.inner.Cost.{noCost}
+use Rattle.net.proofs.Rows.{row-present}
+use Rattle.paths.specs.inner.Column.{entryAt}
 use Rattle.paths.specs.inner.Square.{cell, BestSquare}
 use Rattle.paths.specs.declared.cost.Cost.{Cost}
 use Rattle.tables.specs.Entry.{RoutingByte, ForwardingByte, BackwardingByte}
 use Rattle.tables.specs.inner.EntryRow.{entryByte, entryRow}
-use Rattle.tables.specs.inner.Detours.{forwardCost, Detours}
-use Rattle.tables.proofs.Bytes.{routing-byte, backwarding-from-low, backwarding-from-high, forward-byte}
+use Rattle.tables.specs.inner.Detours.{forwardCost, AllDetours}
+use Rattle.tables.proofs.Bytes.{routing-byte, backwarding-byte, forward-byte}
 use Rattle.tables.proofs.Filling.{entry-row-at}
 
-module _ (R : Rows) (A : Accepted R) where
+module _ (R : Rows) (A : Accepted R) (i : ℕ) (costs : List Cost) where
   open Rows R using (nodes as n, low, high)
 
   -- the bytes of a row are those of its costs
-  row-bytes : (Byte : ℕ → ℕ → Type 0) (i : ℕ) (costs : List Cost)
-      → ((d : ℕ) → d < n → Byte d (entryByte low high i d (getD costs d noCost)))
+  row-bytes : (Byte : ℕ → ℕ → Type 0) (cost : ℕ → Cost) → ((d : ℕ) → d < n → entryAt costs d ≡ cost d)
+      → ((d : ℕ) → d < n → Byte d (entryByte low high i d (cost d)))
       → (d : ℕ) → d < n → Byte d (getD (entryRow n low high i 0 costs) d 0)
-  row-bytes Byte i costs right d destination = rw (entry-row-at low high i costs destination) (right d destination)
+  row-bytes Byte cost are right d destination =
+      rw (entry-row-at low high i costs destination, are d destination) (right d destination)
 
-  pub routing-row : (all : List (List Cost)) → BestSquare (networkOf R) (length low) all → {i : ℕ} → i < n
-      → (d : ℕ) → d < n → RoutingByte (networkOf R) i d (getD (entryRow n low high i 0 (getD all i [])) d 0)
-  unfolding cell
-  routing-row all whole {i} node =
-      row-bytes (RoutingByte (networkOf R) i) i (getD all i []) (λ d destination. routing-byte R A all whole node destination)
+  pub routing-row : (all : List (List Cost)) → BestSquare (networkOf R) All all → i < n
+      → ((d : ℕ) → d < n → entryAt costs d ≡ cell all i d)
+      → (d : ℕ) → d < n → RoutingByte (networkOf R) i d (getD (entryRow n low high i 0 costs) d 0)
+  routing-row all whole node are =
+      row-bytes (RoutingByte (networkOf R) i) (cell all i) are (λ d destination. routing-byte R A all whole node destination)
 
-  module _ (without : List (List Cost)) {k : ℕ} (present : k < length low) (less : BestSquare (networkOf R) k without) where
-    pub backwarding-row-from-low : (d : ℕ) → d < n
-        → BackwardingByte (networkOf R) (2 * k) d
-        (getD (entryRow n low high (getD low k 0) 0 (getD without (getD low k 0) [])) d 0)
-    unfolding cell
-    backwarding-row-from-low =
-        row-bytes (BackwardingByte (networkOf R) (2 * k)) (getD low k 0) (getD without (getD low k 0) [])
-        (λ d destination. backwarding-from-low R A without present less destination)
+  -- the rows of link k, of the node at one of its ends
+  module _ (without : List (List Cost)) {k : ℕ} (present : k < length low) (less : BestSquare (networkOf R) (But k) without)
+      (are : (d : ℕ) → d < n → entryAt costs d ≡ cell without i d) where
+    backwarding-row : (h : ℕ) → link h ≡ k → tail (networkOf R) h ≡ i
+        → (d : ℕ) → d < n → BackwardingByte (networkOf R) h d (getD (entryRow n low high i 0 costs) d 0)
+    backwarding-row h is leaves =
+        row-bytes (BackwardingByte (networkOf R) h) (cell without i) are
+        (λ d destination. backwarding-byte R A without h (rw is (row-present R k present)) (rw is less) leaves destination)
 
-    pub backwarding-row-from-high : (d : ℕ) → d < n
-        → BackwardingByte (networkOf R) (2 * k + 1) d
-        (getD (entryRow n low high (getD high k 0) 0 (getD without (getD high k 0) [])) d 0)
-    unfolding cell
-    backwarding-row-from-high =
-        row-bytes (BackwardingByte (networkOf R) (2 * k + 1)) (getD high k 0) (getD without (getD high k 0) [])
-        (λ d destination. backwarding-from-high R A without present less destination)
+    pub backwarding-row-from-low : i ≡ getD low k 0
+        → (d : ℕ) → d < n → BackwardingByte (networkOf R) (2 * k) d (getD (entryRow n low high i 0 costs) d 0)
+    backwarding-row-from-low is = backwarding-row (2 * k) (link-from-low k) (tail-from-low k (networkOf R) ∙ sym is)
 
-  pub forwarding-row : (all kept : List (List Cost)) → BestSquare (networkOf R) (length low) all
-      → Detours (networkOf R) (length low) all kept → (h : ℕ) → Present R (link h)
-      → {i : ℕ} → head (networkOf R) h ≡ i → (costs : List Cost)
-      → ((d : ℕ) → d < n → getD costs d noCost ≡ forwardCost h (getD (getD all i []) d noCost) (getD (getD kept i []) d noCost))
+    pub backwarding-row-from-high : i ≡ getD high k 0
+        → (d : ℕ) → d < n → BackwardingByte (networkOf R) (2 * k + 1) d (getD (entryRow n low high i 0 costs) d 0)
+    backwarding-row-from-high is = backwarding-row (2 * k + 1) (link-from-high k) (tail-from-high k (networkOf R) ∙ sym is)
+
+  pub forwarding-row : (all kept : List (List Cost)) → BestSquare (networkOf R) All all
+      → AllDetours (networkOf R) (length low) all kept → (h : ℕ) → Present R (link h) → head (networkOf R) h ≡ i
+      → ((d : ℕ) → d < n → entryAt costs d ≡ forwardCost h (cell all i d) (cell kept i d))
       → (d : ℕ) → d < n → ForwardingByte (networkOf R) h d (getD (entryRow n low high i 0 costs) d 0)
-  unfolding cell
-  forwarding-row all kept whole detours h up {i} is costs right =
-      row-bytes (ForwardingByte (networkOf R) h) i costs
-      (λ d destination. rw (right d destination) (forward-byte R A all kept whole detours h up is destination))
+  forwarding-row all kept whole detours h up is are =
+      row-bytes (ForwardingByte (networkOf R) h) (λ d. forwardCost h (cell all i d) (cell kept i d)) are
+      (λ d destination. forward-byte R A all kept whole detours h up is destination)

@@ -4,14 +4,13 @@ use mathlib.Core.Bool.{Bool, true, false}
 use mathlib.Core.Path.{_≡_, refl, sym, _∙_}
 use mathlib.Core.Logic.{_⊎_, inl, inr, _↔_}
 use native.Mathlib.Omega.{arith}
-use borrow.Author.Tests.{eqb-true, eq-eqb}
-use Rattle.graph.specs.Set.{bit}
 use Rattle.net.specs.Choice.{either, both}
+use Rattle.net.specs.inner.LinkSet.{hasLink}
 use Rattle.paths.specs.inner.Cost.{unknown, isKnown, before}
 use Rattle.paths.specs.declared.cost.Cost.{Cost}
 use Rattle.paths.proofs.CostNumber.{Lower, before?}
-use Rattle.paths.proofs.SquareEntry.{known-true}
-use Rattle.tables.specs.inner.KeyTest.{hasLink}
+use Rattle.paths.proofs.ColumnEntry.{known-true}
+use Rattle.tables.specs.inner.KeyTest.{crossesLink}
 
 pub false-true : false ≡ true → ⊥
 false-true e = let z : _≡_ {A = ℕ} 0 1 = cc in omega arith
@@ -24,12 +23,12 @@ pub either-true : (a b : Bool) → (either a b ≡ true) ↔ ((a ≡ true) ⊎ (
 either-true true b = (λ e. inl refl, λ e. refl)
 either-true false b = (λ e. inr e, λ e. elim e [ inl z ↦ absurd (false-true z) | inr q ↦ q ])
 
-pub has-link-true : (c : Cost) (k : ℕ) → (hasLink c k ≡ true) ↔ ((c .sum < unknown) × (bit k (c .links) ≡ 1))
-unfolding hasLink
-has-link-true c k =
+pub crosses-true : (c : Cost) (k : ℕ) → (crossesLink c k ≡ true) ↔ ((c .sum < unknown) × (hasLink (c .links) k ≡ true))
+unfolding crossesLink
+crosses-true c k =
     let parts = both-true (isKnown c) _ in (
-      λ e. let t = parts .0 e in (known-true c .0 (t .0), eqb-true _ _ (t .1)),
-      λ e. parts .1 (known-true c .1 (e .0), eq-eqb _ _ (e .1)),
+      λ e. let t = parts .0 e in (known-true c .0 (t .0), t .1),
+      λ e. parts .1 (known-true c .1 (e .0), e .1),
     )
 
 pub before-true : (a b : Cost) → (before a b ≡ true) ↔ Lower a b

@@ -1,30 +1,33 @@
-// Key links, by the square of all links and the squares without one link: the best path from u to d crosses from j to i exactly if
+// Key links, by the column over all links and the columns without one link: the best path from u to d crosses from j to i exactly if
 // the link lies in the set of u's cost and the cost falls from j to i, so that no path has to be followed.
 ghost use mathlib.Core.Path.{_≡_};
 ghost use lib.ListN.{length};
 ghost use Rattle.graph.specs.Set.{SetOf};
 ghost use Rattle.graph.specs.Entries.{KeyLink};
 ghost use Rattle.net.specs.Rows.{networkOf};
+ghost use Rattle.net.specs.inner.LinkSet.{value};
 ghost use Rattle.tables.specs.Key.{keyLinksVerdict, KeyLinksAnswer};
-ghost use Rattle.tables.specs.inner.KeyTest.{hasLink, keyTest};
+ghost use Rattle.tables.specs.inner.KeyTest.{crossesLink, keyTest};
 ghost use Rattle.tables.specs.inner.Given.{Asked};
 use net::Interface;
 use net::Link;
+use net::LinkSet;
 use net::Node;
 use net::Verdict;
 use net::check_network;
 use net::end_at;
 use net::head_of;
-use net::limit;
 use net::link_of;
+use net::link_set;
 use net::refusal;
 use net::reverse_of;
 use net::tail_of;
 use net::unplaced;
 use paths::inner::Cost;
+use paths::inner::column_of;
+use paths::inner::column_without;
 use paths::inner::comes_before;
 use paths::inner::known;
-use paths::inner::square_of;
 
 // What the entry answers: the set of key links by link number, bit k for link k; or a refusal with its place and the empty set.
 pub struct KeyLinks {
@@ -33,15 +36,13 @@ pub struct KeyLinks {
     pub links: u64,
 }
 
-// Whether a known path's set has the link.
-fn has_link(c: Cost, link: Link) -> bool
-    ensures { λ r. ⌜ r ≡ hasLink c (link .0) ⌝ }
+// Whether the path of a cost crosses the link.
+pub fn crosses_link(c: Cost, link: Link) -> bool
+    ensures { λ r. ⌜ r ≡ crossesLink c (link .0) ⌝ }
 {
-    if limit::LINKS <= link.0 {
-        return false;
-    }
     if known(c) {
-        return (c.links >> link.0) % 2 == 1;
+        let links = c.links;
+        return link_set::has_link(links, link);
     }
     false
 }
@@ -60,47 +61,51 @@ pub fn is_key(h: Interface, whole: Cost, after: Cost, ahead: Cost, one: Cost, ot
     if !comes_before(after, ahead) {
         return false;
     }
-    if has_link(one, link_of(h)) {
+    if crosses_link(one, link_of(h)) {
         return true;
     }
-    has_link(other, link_of(h))
+    crosses_link(other, link_of(h))
 }
 
-// The key links of interface h for d, each link tried by the square without it.
-fn keys_of(n: usize, low: &[u8], high: &[u8], weight: &[u32], h: usize, d: usize) -> u64
-    requires { ⌜ Asked (record { nodes = n; low = now low; high = now high; weight = now weight }) h d ⌝ }
+// The key links of interface h for d, each link tried by the column without it.
+fn keys_of(
+    n: usize,
+    low: &[u8],
+    high: &[u8],
+    weight: &[u32],
+    h: Interface,
+    destination: Node,
+) -> LinkSet
+    requires { ⌜ Asked (record { nodes = n; low = now low; high = now high; weight = now weight }) (h .0) (destination .0) ⌝ }
     ensures { λ r. ⌜ SetOf (length (now (low .entry)))
         (KeyLink
-        (networkOf (record { nodes = n; low = now (low .entry); high = now (high .entry); weight = now (weight .entry) })) d h)
-        r ⌝ }
+        (networkOf (record { nodes = n; low = now (low .entry); high = now (high .entry); weight = now (weight .entry) }))
+        (destination .0) (h .0))
+        (value r) ⌝ }
 {
-    let i = head_of(Interface(h), low, high).0;
-    let j = tail_of(Interface(h), low, high).0;
+    let i = head_of(h, low, high).0;
+    let j = tail_of(h, low, high).0;
+    let d = destination.0;
     if i == d {
-        return 0;
+        return link_set::empty();
     }
+    let all = column_of(n, low, high, weight, Node(d));
+    let whole = all[i];
     let links = low.len();
-    let all = square_of(n, low, high, weight, links);
-    let whole = all[i][d];
-    let mut set: u64 = 0;
+    let mut keys = link_set::empty();
     let mut k: usize = 0;
     while k < links {
         let x = end_at(low, k);
         let y = end_at(high, k);
-        let without = square_of(n, low, high, weight, k);
-        if is_key(
-            Interface(h),
-            whole,
-            without[i][d],
-            without[j][d],
-            without[x][d],
-            without[y][d],
-        ) {
-            set = set | (1 << k);
+        let only = link_set::with_link(link_set::empty(), Link(k));
+        let without = column_without(all, n, low, high, weight, only);
+        if is_key(h, whole, without[i], without[j], without[x], without[y]) {
+            let more = link_set::with_link(keys, Link(k));
+            keys = more;
         }
         k += 1;
     }
-    set
+    keys
 }
 
 fn key_links_verdict(
@@ -148,10 +153,10 @@ pub fn key_links(
             links: 0,
         };
     }
-    let links = keys_of(n, low, high, weight, interface.0, destination.0);
+    let keys = keys_of(n, low, high, weight, interface, destination);
     KeyLinks {
         number: refusal::NONE,
         place: 0,
-        links: links,
+        links: link_set::number_of(keys),
     }
 }

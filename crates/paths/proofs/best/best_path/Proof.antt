@@ -1,7 +1,6 @@
--- `best_path` meets its promise: after the refusals, the entry of the square over all links gives the measures and the routing entry.
+-- `best_path` meets its promise: after the refusals, the entry of the column over all links gives the measures and the routing entry.
 use Prim.Native.Nat.{ℕ}
 use mathlib.Core.Path.{_≡_, refl, sym, ap, _∙_}
-use mathlib.Core.List.{[]}
 use native.Mathlib.Omega.{arith}
 use borrow.Author.Needs.{needs}
 use lib.ListN.{getD}
@@ -11,11 +10,11 @@ use Rattle.net.specs.Refusals.{accepted}
 use Rattle.net.specs.Rows.{Rows, networkOf}
 use Rattle.net.proofs.Accepted.{well-formed}
 use Rattle.net.proofs.Bytes.{here-byte}
-use Rattle.paths.specs.inner.Square.{Shows}
+use Rattle.paths.specs.inner.Column.{Shows}
 use Rattle.paths.specs.Best.{bestPathVerdict}
+use Rattle.paths.specs.declared.cost.Cost.{Cost}
 use Rattle.paths.proofs.Verdict.{number, place, Passed, passed, answered}
 use Rattle.paths.proofs.Answers.{shown-measures, unknown-measures, here-measures, entry-shows, known-byte, unknown-byte}
-use Rattle.paths.proofs.Shape.{array-shaped}
 use Rattle.paths.proofs.best.best_path.Statement.{statement}
 use Rattle.paths.proofs.best.best_path.Tie as tie
 
@@ -42,14 +41,10 @@ known-of c = passed _ _ _ (accepts c)
 formed : (c : tie.Else1) → WellFormed (networkOf (rows (start c)))
 formed c = well-formed _ (known-of c .network)
 
--- the entry of the square, as the code reads it
-shown : (c : tie.After-square-of) → let s = start (c .before) in
-    Shows (networkOf (rows s)) All (source s) (destination s)
-    (getD (getD (c .square-of .result) (source s) []) (destination s) (record { sum = 0; links = 0; first = 0 }))
-shown c =
-    let square = c .square-of in
-    entry-shows _ (known-of (c .before)) (array-shaped _ (square .result) (square .ok .0) (square .ok .1 .0 .1) (square .ok .1 .1))
-    (square .ensures) _
+-- the entry of the column, as the code reads it, whatever it would read past the array's end
+shown : (c : tie.After-column-of) (past : Cost) → let s = start (c .before) in
+    Shows (networkOf (rows s)) All (source s) (destination s) (getD (c .column-of .result) (source s) past)
+shown c past = entry-shows _ (known-of (c .before)) (c .column-of .ok .1 .0 .1) (c .column-of .ensures) past
 
 best-path-verdict-requires : tie.Need-best-path-verdict-requires
 best-path-verdict-requires c κs = search needs
@@ -65,20 +60,14 @@ returns c =
       routing = λ e. absurd (c .if1 .taken e);
     }
 
-square-of-requires : tie.Need-square-of-requires
-square-of-requires c κs = known-of c .network
+column-of-requires : tie.Need-column-of-requires
+column-of-requires c κs = let known = known-of c in record { network = known .network; destination = known .destination }
 
 mul-cost : tie.Need-mul-cost
 mul-cost c = let known = known-of (c .before) in omega (arith, known .network .few-nodes)
 
-mul-cost-2 : tie.Need-mul-cost-2
-mul-cost-2 c = let known = known-of (c .before) in omega (arith, known .network .few-nodes)
-
-index-1-cost : tie.Need-index-1-cost
-index-1-cost c = let known = known-of (c .before) in omega (arith, known .network .few-nodes)
-
-index-2-cost : tie.Need-index-2-cost
-index-2-cost c = let known = known-of (c .before) in omega (arith, known .network .few-nodes)
+array-copy-out-cost : tie.Need-array-copy-out-cost
+array-copy-out-cost c = let known = known-of (c .before) in omega (arith, known .network .few-nodes)
 
 returns-2 : tie.Need-returns-2
 returns-2 c =
@@ -88,32 +77,38 @@ returns-2 c =
 known-requires : tie.Need-known-requires
 known-requires c κs = search needs
 
-cast-t24 : tie.Need-cast-t24
-cast-t24 c = search needs
+cast-t21 : tie.Need-cast-t21
+cast-t21 c = search needs
 
 head-of-requires : tie.Need-head-of-requires
 head-of-requires c κs = search needs
 
-cast-t26 : tie.Need-cast-t26
-cast-t26 c = search needs
+number-of-requires : tie.Need-number-of-requires
+number-of-requires c κs = search needs
+
+cast-t24 : tie.Need-cast-t24
+cast-t24 c = search needs
 
 returns-3 : tie.Need-returns-3
 returns-3 c =
-    let away = c .before .before .before .before .before in
-    let square = away .before .before in
-    let checked = square .before in
-    let sure = sym (c .before .before .before .before .known .ensures) ∙ c .before .before .before .if3 .taken in
-    answered _ _ _ (accepts checked) (shown-measures _ (formed checked) (shown square) sure)
-    (rw (c .before .head-of .ensures) (known-byte _ (known-of checked .network) (shown square) (away .if2 .left) sure))
+    let away = c .before .before .before .before .before .before .before in
+    let column = away .before .before in
+    let checked = column .before in
+    let tested = c .before .before .before .before .before in
+    let sure = sym (tested .before .known .ensures) ∙ tested .if3 .taken in
+    answered _ _ _ (accepts checked)
+    (rw (c .before .number-of .ensures) (shown-measures _ (formed checked) (shown column _) sure))
+    (rw (c .before .before .before .head-of .ensures)
+    (known-byte _ (known-of checked .network) (shown column _) (away .if2 .left) sure))
 
 returns-4 : tie.Need-returns-4
 returns-4 c =
     let away = c .before .before in
-    let square = away .before .before in
-    let checked = square .before in
+    let column = away .before .before in
+    let checked = column .before in
     let lost = sym (c .before .known .ensures) ∙ c .if3 .left in
-    answered _ _ _ (accepts checked) (unknown-measures _ (formed checked) (shown square) lost)
-    (unknown-byte _ (known-of checked .network) (shown square) (away .if2 .left) lost)
+    answered _ _ _ (accepts checked) (unknown-measures _ (formed checked) (shown column _) lost)
+    (unknown-byte _ (known-of checked .network) (shown column _) (away .if2 .left) lost)
 
 pub best-path-spec : {M : Type 1} → statement M
 best-path-spec =
@@ -121,15 +116,14 @@ best-path-spec =
     (tie.spec
     best-path-verdict-requires
     returns
-    square-of-requires
+    column-of-requires
     mul-cost
-    mul-cost-2
-    index-1-cost
-    index-2-cost
+    array-copy-out-cost
     returns-2
     known-requires
-    cast-t24
+    cast-t21
     head-of-requires
-    cast-t26
+    number-of-requires
+    cast-t24
     returns-3
     returns-4)

@@ -9,6 +9,7 @@ use Rattle.graph.proofs.Interfaces.{head-node}
 use Rattle.net.specs.Rows.{Rows, Present, networkOf}
 use Rattle.net.proofs.Accepted.{well-formed}
 use Rattle.net.proofs.Rows.{interface-present, head-of}
+use Rattle.paths.specs.inner.Square.{columnFor}
 use Rattle.tables.specs.Entry.{Filled, ForwardingByte}
 use Rattle.tables.proofs.Filling.{filled-start}
 use Rattle.tables.proofs.RowBytes.{forwarding-row}
@@ -17,19 +18,19 @@ use Rattle.tables.proofs.build.fill_forwarding.Statement.{statement}
 use Rattle.tables.proofs.build.fill_forwarding.Tie as tie
 
 abbrev Inv-loop : tie.InvT-loop
-Inv-loop table₀ n low high weight all kept interfaces h₀ table h =
+Inv-loop table₀ n low high weight by-nodes turned interfaces h₀ table h =
     (interfaces ≡ 2 * length low) × (h ≤ interfaces)
     × Filled n h (ForwardingByte (networkOf (record { nodes = n; low = low; high = high; weight = weight }))) table₀ table
 
 abbrev μ-loop : tie.MeasureT-loop
-μ-loop table₀ n low high weight all kept interfaces h₀ table h = interfaces - h
+μ-loop table₀ n low high weight by-nodes turned interfaces h₀ table h = interfaces - h
 
 -- the network that was given
 abbrev rows : tie.Start Inv-loop μ-loop → Rows
 rows c = record { nodes = c .args .n; low = c .args .low .now; high = c .args .high .now; weight = c .args .weight .now }
 
 abbrev start : tie.In-loop Inv-loop μ-loop → tie.Start Inv-loop μ-loop
-start c = c .before .before .before .before .before .before
+start c = c .before .before .before .before .before .before .before .before
 
 -- row h ends within the table
 room : (c : tie.In-loop Inv-loop μ-loop)
@@ -53,6 +54,12 @@ node c =
     rw (enters c) at
     (head-node (networkOf (rows given)) (well-formed _ (given .pre .filling .network)) (c .before .before .loop .h) (present (c .before)))
 
+by-node-requires : tie.Need-by-node-requires Inv-loop μ-loop
+by-node-requires c κs = c .before .before .before .before .pre .filling .network .few-nodes
+
+by-node-requires-2 : tie.Need-by-node-requires-2 Inv-loop μ-loop
+by-node-requires-2 c κs = c .before .before .before .before .before .pre .filling .network .few-nodes
+
 mul-interfaces : tie.Need-mul-interfaces Inv-loop μ-loop
 mul-interfaces c = omega arith
 
@@ -69,16 +76,16 @@ add-to : tie.Need-add-to Inv-loop μ-loop
 add-to c = let end = room (c .before) in omega arith
 
 mul-own : tie.Need-mul-own Inv-loop μ-loop
-mul-own c = let at = node c in omega arith
+mul-own c = let entered = node c in omega arith
 
 array-copy-out-own : tie.Need-array-copy-out-own Inv-loop μ-loop
-array-copy-out-own c = let at = node c in omega arith
+array-copy-out-own c = let entered = node c in omega arith
 
 mul-detours : tie.Need-mul-detours Inv-loop μ-loop
-mul-detours c = let at = node (c .before) in omega arith
+mul-detours c = let entered = node (c .before) in omega arith
 
 array-copy-out-detours : tie.Need-array-copy-out-detours Inv-loop μ-loop
-array-copy-out-detours c = let at = node (c .before) in omega arith
+array-copy-out-detours c = let entered = node (c .before) in omega arith
 
 forward-costs-requires : tie.Need-forward-costs-requires Inv-loop μ-loop
 forward-costs-requires c κs = omega arith
@@ -104,18 +111,27 @@ loop-less : tie.Need-loop-less Inv-loop μ-loop
 loop-less c = omega arith
 
 loop-again : tie.Need-loop-again Inv-loop μ-loop
+unfolding columnFor
 loop-again c =
     let costs = c .before .before .before .before in
     let entered = costs .before .before .before in
+    let i = entered .head-of .result .0 in
     let in-loop = entered .before in
     let at = in-loop .before .loop in
     let given = start in-loop in
-    let filling = given .pre .filling in (
+    let filling = given .pre .filling in
+    let detours = in-loop .before .before in
+    let own = detours .before in (
       at .inv .0,
       omega arith,
       filled-row (at .inv .2) refl (room in-loop) (given .args .low .now) (given .args .high .now) _ (costs .forward-costs .result)
-          (forwarding-row (rows given) (filling .network) (given .args .t6) (given .args .t7) (filling .square) (given .pre .detours)
-          (at .h) (present in-loop) (enters entered) _ (costs .forward-costs .ensures))
+          (forwarding-row (rows given) (filling .network) _ (costs .forward-costs .result) (given .args .all) (given .args .kept)
+          (filling .square) (given .pre .detours) (at .h) (present in-loop) (enters entered)
+          (λ d destination. cc (
+            costs .forward-costs .ensures d destination,
+            own .by-node .ensures i d (node entered) destination,
+            detours .by-node2 .ensures i d (node entered) destination,
+          )))
           (c .before .before .fill-row .ensures),
     )
 
@@ -124,7 +140,8 @@ same-length c = c .before .loop .inv .2 .same-length
 
 returns : tie.Need-returns Inv-loop μ-loop
 returns c =
-    let done : c .before .loop .h ≡ 2 * length (c .before .before .before .before .before .before .args .low .now) = omega arith in
+    let given = c .before .before .before .before .before .before .before .before in
+    let done : c .before .loop .h ≡ 2 * length (given .args .low .now) = omega arith in
     rw done at (c .before .loop .inv .2)
 
 pub fill-forwarding-spec : {M : Type 1} → statement M
@@ -133,6 +150,8 @@ fill-forwarding-spec =
     (tie.spec
     Inv-loop
     μ-loop
+    by-node-requires
+    by-node-requires-2
     mul-interfaces
     loop-holds
     head-of-requires

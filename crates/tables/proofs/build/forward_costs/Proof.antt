@@ -3,19 +3,20 @@ use Prim.Native.Nat.{ℕ, _≤_, _<_, _-_}
 use mathlib.Core.Path.{_≡_, _∙_}
 use native.Mathlib.Omega.{arith}
 use borrow.Author.Count.{below-more}
-use lib.ListN.{length, getD, length-set}
+use lib.ListN.{length, length-set}
 use lib.Seq.{getD-set-same, getD-set-other}
 use Rattle.net.specs.Limits.{mostNodes}
 use Rattle.paths.specs.inner.Cost.{noCost}
+use Rattle.paths.specs.inner.Column.{entryAt}
 use Rattle.tables.specs.inner.Detours.{forwardCost}
-use Rattle.tables.proofs.Building.{forward-read}
+use Rattle.tables.proofs.Reading.{forward-read}
 use Rattle.tables.proofs.build.forward_costs.Statement.{statement}
 use Rattle.tables.proofs.build.forward_costs.Tie as tie
 
 abbrev Inv-loop : tie.InvT-loop
 Inv-loop h n all kept costs₀ d₀ costs d =
     (d ≤ n) × (length costs ≡ mostNodes)
-    × ((e : ℕ) → e < d → getD costs e noCost ≡ forwardCost (h .0) (getD all e noCost) (getD kept e noCost))
+    × ((e : ℕ) → e < d → entryAt costs e ≡ forwardCost (h .0) (entryAt all e) (entryAt kept e))
 
 abbrev μ-loop : tie.MeasureT-loop
 μ-loop h n all kept costs₀ d₀ costs d = n - d
@@ -51,6 +52,7 @@ loop-less : tie.Need-loop-less Inv-loop μ-loop
 loop-less c = omega arith
 
 loop-again : tie.Need-loop-again Inv-loop μ-loop
+unfolding entryAt
 loop-again c =
     let at = c .before .before .before .before .loop in
     let start = c .before .before .before .before .before in (

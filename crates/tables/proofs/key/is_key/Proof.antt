@@ -51,13 +51,13 @@ returns-3 c =
 link-of-requires : tie.Need-link-of-requires
 link-of-requires c κs = search needs
 
-has-link-requires : tie.Need-has-link-requires
-has-link-requires c κs = search needs
+crosses-link-requires : tie.Need-crosses-link-requires
+crosses-link-requires c κs = search needs
 
 returns-4 : tie.Need-returns-4
 unfolding keyTest
 returns-4 c =
-    let in-one = rw (c .before .before .link-of .ensures) at (c .before .has-link .ensures) in
+    let in-one = rw (c .before .before .link-of .ensures) at (c .before .crosses-link .ensures) in
     let falls = c .before .before .before in
     let back = falls .before .before in
     let reversed = back .before .before in
@@ -76,15 +76,15 @@ returns-4 c =
 link-of-requires-2 : tie.Need-link-of-requires-2
 link-of-requires-2 c κs = search needs
 
-has-link-requires-2 : tie.Need-has-link-requires-2
-has-link-requires-2 c κs = search needs
+crosses-link-requires-2 : tie.Need-crosses-link-requires-2
+crosses-link-requires-2 c κs = search needs
 
 returns-5 : tie.Need-returns-5
 unfolding keyTest
 returns-5 c =
-    let in-other = rw (c .before .link-of2 .ensures) at (c .has-link2 .ensures) in
+    let in-other = rw (c .before .link-of2 .ensures) at (c .crosses-link2 .ensures) in
     let one = c .before .before in
-    let in-one = rw (one .before .before .link-of .ensures) at (one .before .has-link .ensures) in
+    let in-one = rw (one .before .before .link-of .ensures) at (one .before .crosses-link .ensures) in
     let falls = one .before .before .before in
     let back = falls .before .before in
     let reversed = back .before .before in
@@ -113,8 +113,8 @@ is-key-spec =
     comes-before-requires
     returns-3
     link-of-requires
-    has-link-requires
+    crosses-link-requires
     returns-4
     link-of-requires-2
-    has-link-requires-2
+    crosses-link-requires-2
     returns-5)

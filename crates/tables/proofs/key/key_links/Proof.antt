@@ -3,7 +3,7 @@ use mathlib.Core.Path.{_≡_, refl, sym, ap, _∙_}
 use borrow.Author.Needs.{needs}
 use Rattle.net.specs.Refusals.{accepted}
 use Rattle.tables.specs.Key.{keyLinksVerdict}
-use Rattle.tables.proofs.KeySteps.{accepted-asked, accepted-verdict}
+use Rattle.tables.proofs.KeyVerdicts.{accepted-asked, accepted-verdict}
 use Rattle.tables.proofs.key.key_links.Statement.{statement}
 use Rattle.tables.proofs.key.key_links.Tie as tie
 
@@ -31,15 +31,18 @@ passed c = sym (ap (λ v. v .number) (c .before .before .key-links-verdict .ensu
 keys-of-requires : tie.Need-keys-of-requires
 keys-of-requires c κs = accepted-asked _ _ _ (passed c)
 
+number-of-requires : tie.Need-number-of-requires
+number-of-requires c κs = search needs
+
 returns-2 : tie.Need-returns-2
 returns-2 c =
-    let answered = accepted-verdict _ _ _ (passed (c .before)) in
+    let answered = accepted-verdict _ _ _ (passed (c .before .before)) in
     record {
       number = sym (ap (λ v. v .number) answered);
       place = sym (ap (λ v. v .place) answered);
       refused = λ n. absurd (n refl);
-      keys = λ e. c .keys-of .ensures;
+      keys = λ e. rw (c .number-of .ensures) (c .before .keys-of .ensures);
     }
 
 pub key-links-spec : {M : Type 1} → statement M
-key-links-spec = tie.close (tie.spec key-links-verdict-requires returns keys-of-requires returns-2)
+key-links-spec = tie.close (tie.spec key-links-verdict-requires returns keys-of-requires number-of-requires returns-2)

@@ -7,7 +7,7 @@ use Rattle.graph.specs.Network.{link}
 use Rattle.net.specs.Refusals.{accepted}
 use Rattle.net.specs.Rows.{Rows}
 use Rattle.net.specs.Check.{checkNetwork}
-use Rattle.tables.proofs.KeySteps.{network-refused, interface-refused, destination-refused, keys-accepted}
+use Rattle.tables.proofs.KeyVerdicts.{network-refused, interface-refused, destination-refused, keys-accepted}
 use Rattle.tables.proofs.key.key_links_verdict.Statement.{statement}
 use Rattle.tables.proofs.key.key_links_verdict.Tie as tie
 

@@ -1,58 +1,72 @@
--- `keys_of` tries each link by the square without it. The loop's invariant: the set is that of the key links below k. The entries
+-- `keys_of` tries each link by the column without it. The loop's invariant: the set is that of the key links below k. The entries
 -- that it reads are those of nodes: the interface's two ends, and the ends of link k.
-use Prim.Native.Nat.{_-_, _≤_, _<_}
-use mathlib.Core.Path.{_≡_, refl, sym, _∙_}
+use Prim.Native.Nat.{ℕ, _-_, _≤_, _<_}
+use mathlib.Core.Path.{_≡_, refl, sym, ap, _∙_}
 use mathlib.Core.Logic.{⊎-elim}
+use mathlib.Core.List.{List}
 use native.Mathlib.Omega.{arith}
 use borrow.Author.Needs.{needs}
 use lib.ListN.{length, getD}
 use Rattle.net.specs.Limits.{mostNodes}
+use Rattle.net.specs.Rows.{Rows}
 use Rattle.net.specs.Check.{Joins}
-use Rattle.paths.proofs.Cells.{hereCost}
-use Rattle.paths.proofs.Shape.{array-shaped}
+use Rattle.net.specs.inner.LinkSet.{withLink}
 use Rattle.tables.proofs.Tests.{false-true}
-use Rattle.tables.proofs.KeyLoop.{KeysBelow, bit-kept, head-below, tail-below, no-keys-here}
+use Rattle.tables.proofs.KeyLoop.{KeysBelow, head-below, tail-below, no-keys-here}
 use Rattle.tables.proofs.KeyLoop.{keys-begin, keys-with, keys-without, keys-done, key-read}
 use Rattle.tables.proofs.key.keys_of.Statement.{statement}
 use Rattle.tables.proofs.key.keys_of.Tie as tie
 
+abbrev given : ℕ → List ℕ → List ℕ → List ℕ → Rows
+given n low high weight = record { nodes = n; low = low; high = high; weight = weight }
+
 abbrev Inv-loop : tie.InvT-loop
-Inv-loop n low high weight h d i j links whole set₀ k₀ set k =
-    (links ≡ length low) × (k ≤ links)
-    × KeysBelow (record { nodes = n; low = low; high = high; weight = weight }) h d k set
+Inv-loop n low high weight h i j d all whole links keys₀ k₀ keys k =
+    (links ≡ length low) × (k ≤ links) × KeysBelow (given n low high weight) (h .0) d k keys
 
 abbrev μ-loop : tie.MeasureT-loop
-μ-loop n low high weight h d i j links whole set₀ k₀ set k = links - k
+μ-loop n low high weight h i j d all whole links keys₀ k₀ keys k = links - k
 
--- the rows of the square that are read
-head-row : (c : tie.After-head-of Inv-loop μ-loop) → c .head-of .result .0 < mostNodes
-head-row c =
-    let start = c .before .before .before .before in
-    omega (arith, start .pre .network .few-nodes, head-below (start .pre), c .head-of .ensures)
+-- what the function was given, from where the interface's two ends are read, and that place from a turn of the loop
+abbrev start : tie.After-tail-of Inv-loop μ-loop → tie.Start Inv-loop μ-loop
+start c = c .before .before .before .before .before
 
-tail-row : (c : tie.After-tail-of Inv-loop μ-loop) → c .tail-of .result .0 < mostNodes
-tail-row c =
-    let start = c .before .before .before .before .before in
-    omega (arith, start .pre .network .few-nodes, tail-below (start .pre), c .tail-of .ensures)
+abbrev ends : tie.In-loop Inv-loop μ-loop → tie.After-tail-of Inv-loop μ-loop
+ends c = c .before .before .before .before .before .before
 
--- link k joins two nodes
+-- the turn at which the column without link k was made
+abbrev turn : tie.After-column-without Inv-loop μ-loop → tie.In-loop Inv-loop μ-loop
+turn c = c .before .before .before .before .before
+
+-- the places of the columns that are read
+head-place : (c : tie.After-tail-of Inv-loop μ-loop) → c .before .head-of .result .0 < mostNodes
+head-place c =
+    let asked = start c .pre in
+    omega (arith, asked .network .few-nodes, head-below asked, c .before .head-of .ensures)
+
+tail-place : (c : tie.After-tail-of Inv-loop μ-loop) → c .tail-of .result .0 < mostNodes
+tail-place c =
+    let asked = start c .pre in
+    omega (arith, asked .network .few-nodes, tail-below asked, c .tail-of .ensures)
+
+number : (c : tie.In-loop Inv-loop μ-loop) → c .before .loop .k < length (start (ends c) .args .low .now)
+number c = omega (arith, c .before .loop .inv .0, c .loop-test .taken)
+
 joins : (c : tie.In-loop Inv-loop μ-loop)
-    → let args = c .before .before .before .before .before .before .before .before .before .before .args in
+    → let args = start (ends c) .args in
     Joins (args .n) (getD (args .low .now) (c .before .loop .k) 0) (getD (args .high .now) (c .before .loop .k) 0)
     (getD (args .weight .now) (c .before .loop .k) 0)
-joins c =
-    let start = c .before .before .before .before .before .before .before .before .before .before in
-    start .pre .network .joins (c .before .loop .k) (omega arith)
+joins c = start (ends c) .pre .network .joins (c .before .loop .k) (number c)
 
-low-row : (c : tie.After-end-at Inv-loop μ-loop) → c .end-at .result < mostNodes
-low-row c =
-    let start = c .before .before .before .before .before .before .before .before .before .before .before in
-    omega (arith, start .pre .network .few-nodes, joins (c .before), c .end-at .ensures)
+low-place : (c : tie.After-column-without Inv-loop μ-loop) → c .before .before .before .before .end-at .result < mostNodes
+low-place c =
+    let network = start (ends (turn c)) .pre .network in
+    omega (arith, network .few-nodes, joins (turn c), c .before .before .before .before .end-at .ensures)
 
-high-row : (c : tie.After-end-at2 Inv-loop μ-loop) → c .end-at2 .result < mostNodes
-high-row c =
-    let start = c .before .before .before .before .before .before .before .before .before .before .before .before in
-    omega (arith, start .pre .network .few-nodes, joins (c .before .before), c .end-at2 .ensures)
+high-place : (c : tie.After-column-without Inv-loop μ-loop) → c .before .before .before .end-at2 .result < mostNodes
+high-place c =
+    let network = start (ends (turn c)) .pre .network in
+    omega (arith, network .few-nodes, joins (turn c), c .before .before .before .end-at2 .ensures)
 
 head-of-requires : tie.Need-head-of-requires Inv-loop μ-loop
 head-of-requires c κs = search needs
@@ -60,28 +74,30 @@ head-of-requires c κs = search needs
 tail-of-requires : tie.Need-tail-of-requires Inv-loop μ-loop
 tail-of-requires c κs = search needs
 
+empty-requires : tie.Need-empty-requires Inv-loop μ-loop
+empty-requires c κs = search needs
+
 returns : tie.Need-returns Inv-loop μ-loop
 returns c =
-    let start = c .before .before .before .before .before .before in
-    no-keys-here (start .pre) (sym (c .before .before .head-of .ensures) ∙ c .if1 .taken)
+    let read = c .before .before in
+    rw (c .empty .ensures) (no-keys-here (start read .pre) (sym (read .before .head-of .ensures) ∙ c .before .if1 .taken))
 
-square-of-requires : tie.Need-square-of-requires Inv-loop μ-loop
-square-of-requires c κs = search needs
+column-of-requires : tie.Need-column-of-requires Inv-loop μ-loop
+column-of-requires c κs =
+    let asked = start (c .before) .pre in
+    record { network = asked .network; destination = asked .destination }
 
 mul-whole : tie.Need-mul-whole Inv-loop μ-loop
-mul-whole c = omega (arith, head-row (c .before .before .before))
+mul-whole c = omega (arith, head-place (c .before .before))
 
-mul-whole-2 : tie.Need-mul-whole-2 Inv-loop μ-loop
-mul-whole-2 c = omega arith
+array-copy-out-whole : tie.Need-array-copy-out-whole Inv-loop μ-loop
+array-copy-out-whole c = head-place (c .before .before)
 
-index-1-whole : tie.Need-index-1-whole Inv-loop μ-loop
-index-1-whole c = omega (arith, head-row (c .before .before .before))
-
-index-2-whole : tie.Need-index-2-whole Inv-loop μ-loop
-index-2-whole c = omega arith
+empty-requires-2 : tie.Need-empty-requires-2 Inv-loop μ-loop
+empty-requires-2 c κs = search needs
 
 loop-holds : tie.Need-loop-holds Inv-loop μ-loop
-loop-holds c = (refl, omega arith, keys-begin)
+loop-holds c = (refl, omega arith, rw (c .empty2 .ensures) keys-begin)
 
 end-at-requires : tie.Need-end-at-requires Inv-loop μ-loop
 end-at-requires c κs = search needs
@@ -89,104 +105,81 @@ end-at-requires c κs = search needs
 end-at-requires-2 : tie.Need-end-at-requires-2 Inv-loop μ-loop
 end-at-requires-2 c κs = search needs
 
-square-of-requires-2 : tie.Need-square-of-requires-2 Inv-loop μ-loop
-square-of-requires-2 c κs = search needs
+empty-requires-3 : tie.Need-empty-requires-3 Inv-loop μ-loop
+empty-requires-3 c κs = search needs
+
+with-link-requires : tie.Need-with-link-requires Inv-loop μ-loop
+with-link-requires c κs =
+    let in-loop = c .before .before .before in
+    omega (arith, number in-loop, start (ends in-loop) .pre .network .few-links)
+
+column-without-requires : tie.Need-column-without-requires Inv-loop μ-loop
+column-without-requires c κs = start (ends (c .before .before .before .before)) .pre .network
 
 mul-is-key : tie.Need-mul-is-key Inv-loop μ-loop
-mul-is-key c = omega (arith, head-row (c .before .before .before .before .before .before .before .before .before))
+mul-is-key c = omega (arith, head-place (ends (turn c)))
+
+array-copy-out-is-key : tie.Need-array-copy-out-is-key Inv-loop μ-loop
+array-copy-out-is-key c = head-place (ends (turn c))
 
 mul-is-key-2 : tie.Need-mul-is-key-2 Inv-loop μ-loop
-mul-is-key-2 c = omega arith
+mul-is-key-2 c = omega (arith, tail-place (ends (turn (c .before))))
 
-index-1-is-key : tie.Need-index-1-is-key Inv-loop μ-loop
-index-1-is-key c = omega (arith, head-row (c .before .before .before .before .before .before .before .before .before))
-
-index-2-is-key : tie.Need-index-2-is-key Inv-loop μ-loop
-index-2-is-key c = omega arith
+array-copy-out-is-key-2 : tie.Need-array-copy-out-is-key-2 Inv-loop μ-loop
+array-copy-out-is-key-2 c = tail-place (ends (turn (c .before)))
 
 mul-is-key-3 : tie.Need-mul-is-key-3 Inv-loop μ-loop
-mul-is-key-3 c = omega (arith, tail-row (c .before .before .before .before .before .before .before .before .before))
+mul-is-key-3 c = omega (arith, low-place (c .before .before))
+
+array-copy-out-is-key-3 : tie.Need-array-copy-out-is-key-3 Inv-loop μ-loop
+array-copy-out-is-key-3 c = low-place (c .before .before)
 
 mul-is-key-4 : tie.Need-mul-is-key-4 Inv-loop μ-loop
-mul-is-key-4 c = omega arith
+mul-is-key-4 c = omega (arith, high-place (c .before .before .before))
 
-index-1-is-key-2 : tie.Need-index-1-is-key-2 Inv-loop μ-loop
-index-1-is-key-2 c = omega (arith, tail-row (c .before .before .before .before .before .before .before .before .before))
-
-index-2-is-key-2 : tie.Need-index-2-is-key-2 Inv-loop μ-loop
-index-2-is-key-2 c = omega arith
-
-mul-is-key-5 : tie.Need-mul-is-key-5 Inv-loop μ-loop
-mul-is-key-5 c = omega (arith, low-row (c .before .before .before .before))
-
-mul-is-key-6 : tie.Need-mul-is-key-6 Inv-loop μ-loop
-mul-is-key-6 c = omega arith
-
-index-1-is-key-3 : tie.Need-index-1-is-key-3 Inv-loop μ-loop
-index-1-is-key-3 c = omega (arith, low-row (c .before .before .before .before))
-
-index-2-is-key-3 : tie.Need-index-2-is-key-3 Inv-loop μ-loop
-index-2-is-key-3 c = omega arith
-
-mul-is-key-7 : tie.Need-mul-is-key-7 Inv-loop μ-loop
-mul-is-key-7 c = omega (arith, high-row (c .before .before .before .before))
-
-mul-is-key-8 : tie.Need-mul-is-key-8 Inv-loop μ-loop
-mul-is-key-8 c = omega arith
-
-index-1-is-key-4 : tie.Need-index-1-is-key-4 Inv-loop μ-loop
-index-1-is-key-4 c = omega (arith, high-row (c .before .before .before .before))
-
-index-2-is-key-4 : tie.Need-index-2-is-key-4 Inv-loop μ-loop
-index-2-is-key-4 c = omega arith
+array-copy-out-is-key-4 : tie.Need-array-copy-out-is-key-4 Inv-loop μ-loop
+array-copy-out-is-key-4 c = high-place (c .before .before .before)
 
 is-key-requires : tie.Need-is-key-requires Inv-loop μ-loop
 is-key-requires c κs = search needs
 
-shl-set : tie.Need-shl-set Inv-loop μ-loop
-shl-set c =
-    let turn = c .before .before .before .before .before .before .before .before .before in
-    let start = turn .before .before .before .before .before .before .before .before .before .before in
-    omega (arith, start .pre .network .few-links, turn .before .loop .inv .0, turn .loop-test .taken)
+with-link-requires-2 : tie.Need-with-link-requires-2 Inv-loop μ-loop
+with-link-requires-2 c κs =
+    let in-loop = turn (c .before .before .before .before .before .before) in
+    omega (arith, number in-loop, start (ends in-loop) .pre .network .few-links)
 
 add-k : tie.Need-add-k Inv-loop μ-loop
 add-k c =
-    let turn = c .before .before .before .before .before .before .before .before .before in
-    let start = turn .before .before .before .before .before .before .before .before .before .before in
-    omega (arith, start .pre .network .few-links, turn .before .loop .inv .0, turn .loop-test .taken)
+    let in-loop = turn (c .before .before .before .before .before .before) in
+    omega (arith, number in-loop, start (ends in-loop) .pre .network .few-links)
 
 loop-less : tie.Need-loop-less Inv-loop μ-loop
-loop-less c = omega arith
+loop-less c = omega (arith, turn (c .before .before .before .before .before .before) .loop-test .taken)
 
 loop-again : tie.Need-loop-again Inv-loop μ-loop
 loop-again c =
-    let squared = c .before .before .before .before .before .before in
-    let high-end = squared .before in
+    let restarted = c .before .before .before .before .before .before in
+    let only-link = restarted .before in
+    let high-end = only-link .before .before in
     let low-end = high-end .before in
-    let turn = low-end .before in
-    let at = turn .before .loop in
-    let all = turn .before .before .before in
-    let apart = all .before in
-    let tail-end = apart .before in
-    let head-end = tail-end .before in
-    let start = head-end .before .before .before .before in
-    let number : at .k < length (start .args .low .now) = omega (arith, at .inv .0, turn .loop-test .taken) in
-    let whole = all .square-of in
-    let without = squared .square-of2 in
-    let whole-shaped = array-shaped _ (whole .result) (whole .ok .0) (whole .ok .1 .0 .1) (whole .ok .1 .1) in
-    let without-shaped = array-shaped _ (without .result) (without .ok .0) (without .ok .1 .0 .1) (without .ok .1 .1) in
+    let in-loop = turn restarted in
+    let at = in-loop .before .loop in
+    let whole = in-loop .before .before .before .before in
+    let both-ends = ends in-loop in
+    let asked = start both-ends .pre in
+    let all = whole .column-of in
+    let without = restarted .column-without in
+    let only = only-link .with-link .ensures ∙ ap (λ s. withLink s (at .k)) (only-link .before .empty3 .ensures) in
     let key =
-    key-read (start .pre) whole-shaped without-shaped
-    (whole .ensures) (without .ensures) number (head-end .head-of .ensures) (tail-end .tail-of .ensures)
-    (low-end .end-at .ensures) (high-end .end-at2 .ensures) (apart .if1 .left) hereCost in
+    key-read asked (all .ensures) (rw only at (without .ensures)) (number in-loop) (all .ok .1 .0 .1) (without .ok .1 .0 .1)
+    (both-ends .before .head-of .ensures) (both-ends .tail-of .ensures) (low-end .end-at .ensures) (high-end .end-at2 .ensures)
+    (whole .before .if1 .left) _ in
     let test = sym (c .before .is-key .ensures) in (
       at .inv .0,
       omega (arith, at .inv .0),
       ⊎-elim
-          (λ w. rw (w .1, bit-kept (at .k) (omega (arith, start .pre .network .few-links)))
-          (keys-with number (key .0 (test ∙ w .0 .taken)) (at .inv .2)))
-          (λ w. rw (w .1)
-          (keys-without (λ k. false-true (sym (test ∙ w .0 .left) ∙ key .1 k)) (at .inv .2)))
+          (λ w. rw (w .2 ∙ w .1 .ensures) (keys-with (number in-loop) (key .0 (test ∙ w .0 .taken)) (at .inv .2)))
+          (λ w. rw (w .1) (keys-without (λ found. false-true (sym (test ∙ w .0 .left) ∙ key .1 found)) (at .inv .2)))
           (c .if2 .came),
     )
 
@@ -201,34 +194,28 @@ keys-of-spec =
     μ-loop
     head-of-requires
     tail-of-requires
+    empty-requires
     returns
-    square-of-requires
+    column-of-requires
     mul-whole
-    mul-whole-2
-    index-1-whole
-    index-2-whole
+    array-copy-out-whole
+    empty-requires-2
     loop-holds
     end-at-requires
     end-at-requires-2
-    square-of-requires-2
+    empty-requires-3
+    with-link-requires
+    column-without-requires
     mul-is-key
+    array-copy-out-is-key
     mul-is-key-2
-    index-1-is-key
-    index-2-is-key
+    array-copy-out-is-key-2
     mul-is-key-3
+    array-copy-out-is-key-3
     mul-is-key-4
-    index-1-is-key-2
-    index-2-is-key-2
-    mul-is-key-5
-    mul-is-key-6
-    index-1-is-key-3
-    index-2-is-key-3
-    mul-is-key-7
-    mul-is-key-8
-    index-1-is-key-4
-    index-2-is-key-4
+    array-copy-out-is-key-4
     is-key-requires
-    shl-set
+    with-link-requires-2
     add-k
     loop-less
     loop-again

@@ -1,38 +1,20 @@
--- The steps of the code on key links: a set of links is a number of as many bits as there may be links, so that it has no link past
--- them; and what the check of an interface and a destination answers, one refusal after the other.
-use Prim.Native.Nat.{ℕ, _*_, _^_, _/_, _≤_, _<_}
-use mathlib.Core.Bool.{Bool, true, false}
-use mathlib.Core.Path.{_≡_, refl, sym, ap, _∙_}
+-- What the check of an interface and a destination answers, one refusal after the other.
+use Prim.Native.Nat.{ℕ, _*_, _≤_, _<_}
+use mathlib.Core.Bool.{true}
+use mathlib.Core.Path.{_≡_, sym, ap, _∙_}
 use mathlib.Core.Logic.{_≢_}
-use native.Mathlib.Nat.{div-eq-of-lt, pow-le-pow-right}
 use native.Mathlib.Omega.{arith}
 use borrow.Author.Tests.{le-leb, lt-leb, leb-false}
 use lib.Dec.{leb}
 use lib.ListN.{length}
 use Rattle.graph.specs.Network.{link}
-use Rattle.net.specs.Limits.{mostLinks}
 use Rattle.net.specs.Refusals.{accepted, interfaceNumber, nodeNumber}
-use Rattle.net.specs.Choice.{both}
 use Rattle.net.specs.Check.{verdict, checkNetwork, refusedIf}
 use Rattle.net.specs.Rows.{Rows}
 use Rattle.net.proofs.Accepted.{accepts-check, check-accepts}
 use Rattle.net.proofs.Verdicts.{or-else-first, or-else-second, first-accepted, second-accepted, is-refused, not-refused, passed-test}
-use Rattle.paths.specs.inner.Cost.{isKnown}
-use Rattle.paths.specs.declared.cost.Cost.{Cost}
 use Rattle.tables.specs.Key.{keyLinksVerdict}
-use Rattle.tables.specs.inner.KeyTest.{hasLink}
 use Rattle.tables.specs.inner.Given.{Asked}
-
-both-false : (b : Bool) → both b false ≡ false
-both-false true = refl
-both-false false = refl
-
-pub has-link-past : (c : Cost) (k : ℕ) → c .links < 2 ^ mostLinks → mostLinks ≤ k → hasLink c k ≡ false
-unfolding hasLink
-has-link-past c k small past =
-    let wide : 2 ^ mostLinks ≤ 2 ^ k = pow-le-pow-right {n = 2} (omega arith) past in
-    let none : c .links / 2 ^ k ≡ 0 = div-eq-of-lt (omega arith) in
-    rw none (both-false (isKnown c))
 
 module _ (R : Rows) (h d : ℕ) where
   open Rows R using (nodes as n, low)
