@@ -19,13 +19,17 @@ test:
 compare: target/bin/nightplan target/bin/codec target/bin/answers
 	@sh compare/compare.sh
 
-# Instructions and time of nightplan against the second program (bench/README.md).
+# Instructions and time of nightplan against the second program, and the rounds that best paths need (bench/README.md).
+BENCHED = $(patsubst %,plans/%.plan,full ring abilene a bare)
 bench: target/bin/nightplan
 	@mkdir -p build/bench
 	@sh bench/native.sh build/bench
 	@rustc -O --edition 2021 -D warnings second/second.rs -o build/bench/second
 	@rustc -O --edition 2021 -D warnings bench/bench.rs -o build/bench/bench
-	@build/bench/bench build/bench/nightplan 'build/bench/second report' build/bench $(patsubst %,plans/%.plan,full ring abilene a bare)
+	@rustc -O --edition 2021 -D warnings bench/rounds.rs -o build/bench/rounds
+	@build/bench/bench build/bench/nightplan 'build/bench/second report' build/bench $(BENCHED)
+	@echo
+	@build/bench/rounds $(BENCHED)
 
 clean:
 	rm -rf target build
