@@ -37,6 +37,15 @@ pub over-out : {k : ℕ} {p : List ℕ} → Over (But k) p → Out k (map link p
 over-out over-none = none
 over-out (over-both n o) = both (Ne·symm n) (over-out o)
 
+-- a chain is over the links left in exactly if each link that lies on it is
+pub over-lies : {X : ℕ → Type 0} {k : ℕ} {p : List ℕ} → Over X p → Lies k p → X k
+over-lies (over-both x o) (here e) = rw e at x
+over-lies (over-both x o) (later l) = over-lies o l
+
+pub over-each : {X : ℕ → Type 0} (p : List ℕ) → ((k : ℕ) → Lies k p → X k) → Over X p
+over-each [] each = over-none
+over-each (f ∷ p) each = over-both (each (link f) (here refl)) (over-each p (λ k l. each k (later l)))
+
 pub cost-pair : (N : Network) (p : List ℕ) → cost N p ≡ weightSum N p * 2 ^ N .links + linkSet p
 unfolding weightSum
 cost-pair N [] = omega arith

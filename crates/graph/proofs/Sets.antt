@@ -16,17 +16,16 @@ use Rattle.graph.specs.Set.{bit, SetOf, linkSet}
 use Rattle.graph.proofs.Sum.{first, in?, sum-below, bit-in, bit-out}
 use Rattle.graph.proofs.Order.{lies-in, in-lies, set-below, links-once}
 
--- the links that lie on a path
+-- the links that lie on a path, by any number
+pub path-bit : {N : Network} {i d : ℕ} {p : List ℕ} → WellFormed N → Path N i p d → (k : ℕ) → (bit k (linkSet p) ≡ 1) ↔ Lies k p
+path-bit {N} {p = p} W s k =
+    let once = links-once N W s .distinct in (
+      λ e. elim (in? k (map link p)) [ inl i ↦ in-lies p i | inr o ↦ absurd (omega (arith, e, bit-out once o)) ],
+      λ l. bit-in once (lies-in l),
+    )
+
 pub set-of-path : {N : Network} {i d : ℕ} {p : List ℕ} → WellFormed N → Path N i p d → SetOf (N .links) (λ k. Lies k p) (linkSet p)
-set-of-path {N} {p = p} W s =
-    let once = links-once N W s in
-    record {
-      below = set-below N once;
-      bits = λ k h. (
-        λ e. elim (in? k (map link p)) [ inl i ↦ in-lies p i | inr o ↦ absurd (omega (arith, e, bit-out (once .distinct) o)) ],
-        λ l. bit-in (once .distinct) (lies-in l),
-      );
-    }
+set-of-path {N} W s = record { below = set-below N (links-once N W s); bits = λ k h. path-bit W s k }
 
 -- the bits of the half are those of the number, one place lower
 bit-half : (n k : ℕ) → bit (suc k) n ≡ bit k (n / 2)

@@ -11,7 +11,6 @@ use lib.Bits.{bitAnd, bitOr}
 use lib.Dec.{ltb, eqb}
 use Rattle.graph.specs.Set.{bit}
 use Rattle.graph.proofs.Sets.{bit-or, bit-own, bit-other, bit-and, some-bit}
-use Rattle.net.specs.Limits.{mostLinks}
 use Rattle.net.specs.inner.LinkSet.{value, noLinks, withLink, hasLink, comesBefore, meeting, Without}
 use Rattle.net.specs.declared.link_set.LinkSet.{LinkSet}
 
@@ -47,20 +46,23 @@ pub has-not-bit : (s : LinkSet) (k : ℕ) → Without s k ↔ (bit k (value s) �
 unfolding hasLink
 has-not-bit s k = (λ e. omega (arith, eqb-false (bit k (value s)) 1 e), λ e. ne-eqb (bit k (value s)) 1 (λ q. omega arith))
 
--- a word has no link past its bits
-pub has-link-past : (s : LinkSet) (k : ℕ) → value s < 2 ^ mostLinks → mostLinks ≤ k → Without s k
-has-link-past s k small past =
-    let wide : 2 ^ mostLinks ≤ 2 ^ k = pow-le-pow-right {n = 2} (omega arith) past in
+-- a word of any width has no link past its bits
+pub has-link-past : (s : LinkSet) (width k : ℕ) → value s < 2 ^ width → width ≤ k → Without s k
+has-link-past s width k small past =
+    let wide : 2 ^ width ≤ 2 ^ k = pow-le-pow-right {n = 2} (omega arith) past in
     let none : value s / 2 ^ k ≡ 0 = div-eq-of-lt (omega arith) in
     has-not-bit s k .1 (rw none refl)
 
--- by the links
+-- by the links: one that is in the set is not left in when the set is taken out
+pub not-both : (s : LinkSet) (k : ℕ) → hasLink s k ≡ true → Without s k → ⊥
+not-both s k has lacks = true-not-false (sym has ∙ lacks)
+
 pub without? : (s : LinkSet) (k : ℕ) → Dec (Without s k)
 without? s k = go (hasLink s k) refl
   where
     go : (b : Bool) → hasLink s k ≡ b → Dec (Without s k)
     go false e = yes e
-    go true e = no (λ q. true-not-false (sym e ∙ q))
+    go true e = no (not-both s k e)
 
 pub without-none : (k : ℕ) → Without noLinks k
 without-none k = has-not-bit noLinks k .1 (rw (value-none, zero-div (2 ^ k)) refl)

@@ -29,7 +29,7 @@ use Rattle.net.specs.declared.link_set.LinkSet.{LinkSet}
 use Rattle.net.proofs.Accepted.{well-formed}
 use Rattle.net.proofs.LinkSets.{without?}
 use Rattle.paths.specs.inner.Cost.{noCost}
-use Rattle.paths.specs.inner.Column.{entryAt, Shows, Shows.none as no-path, BestColumn, Toward, Restarted}
+use Rattle.paths.specs.inner.Column.{entryAt, Shows, Shows.none as no-path, BestColumn, OneDestination, Restarted}
 use Rattle.paths.specs.inner.Rounds.{startColumn, settled, blanked}
 use Rattle.paths.specs.declared.cost.Cost.{Cost}
 use Rattle.paths.specs.declared.column.Revised.{Revised}
@@ -202,7 +202,7 @@ module _ (R : Rows) (A : Accepted R) (out fewer : LinkSet) where
         (restart-still N X d Y (without? out) less D D′ finished remaining-blanked
         (λ i. ap (λ (l : List Cost). entry N (entryAt l i)) same))
 
-pub start-best : {R : Rows} {d : ℕ} → Toward R d → BestColumn (networkOf R) All d (settled R noLinks (startColumn d))
+pub start-best : {R : Rows} {d : ℕ} → OneDestination R d → BestColumn (networkOf R) All d (settled R noLinks (startColumn d))
 start-best {R} {d} t =
     let A = t .network in
     let begun = start-begun (networkOf R) (Without noLinks) d (omega (arith, A .few-nodes, t .destination)) in

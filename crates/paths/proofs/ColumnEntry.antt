@@ -4,29 +4,27 @@
 -- left in are told.
 use Prim.Native.Nat.{ℕ, _≤_, _<_}
 use mathlib.Core.Bool.{true, false}
-use mathlib.Core.Path.{_≡_, refl, sym}
-use mathlib.Core.Logic.{_≢_, _↔_, inl, inr}
-use mathlib.Core.List.{List, [], _∷_, map}
+use mathlib.Core.Path.{_≡_, sym}
+use mathlib.Core.Logic.{_≢_, _↔_}
+use mathlib.Core.List.{List, [], _∷_}
 use native.Mathlib.Nat.{one-le-pow}
 use native.Mathlib.Decide.{decLt}
 use native.Mathlib.Omega.{arith}
 use borrow.Author.Tests.{ltb-true, ltb-false, lt-ltb, le-ltb}
-use Rattle.graph.specs.Network.{Network, WellFormed, link}
-use Rattle.graph.specs.Path.{Chain, stop, step, Path, Over, Over.none as over-none, Over.both as over-both, All, But, weightSum}
-use Rattle.graph.specs.Path.{Lies, Lies.here as on-first, Lies.later as on-later}
-use Rattle.graph.specs.Set.{bit, SetOf, linkSet}
+use Rattle.graph.specs.Network.{Network, WellFormed}
+use Rattle.graph.specs.Path.{Chain, stop, step, Path, Over, Over.none as over-none, All, But, Lies, weightSum}
+use Rattle.graph.specs.Set.{SetOf, linkSet}
 use Rattle.graph.specs.Entries.{onward, nowhere, Entry, lacks}
 use Rattle.graph.proofs.Chain.{Best, cost, over-weaken}
 use Rattle.graph.proofs.Simple.{simple}
-use Rattle.graph.proofs.Sum.{in?, bit-in, bit-out}
-use Rattle.graph.proofs.Order.{lies-in, in-lies, cost-pair, set-below, links-once, better-pair, better-less}
+use Rattle.graph.proofs.Order.{over-lies, over-each, cost-pair, set-below, links-once, better-pair, better-less}
 use Rattle.graph.proofs.Unique.{unique}
 use Rattle.graph.proofs.Agreement.{path-best, best-path-fewer}
 use Rattle.graph.proofs.Entries.{best-entry}
-use Rattle.graph.proofs.Sets.{set-of-path}
+use Rattle.graph.proofs.Sets.{path-bit, set-of-path}
 use Rattle.net.specs.inner.LinkSet.{value, noLinks, withLink, hasLink, meeting, Without}
 use Rattle.net.specs.declared.link_set.LinkSet.{LinkSet}
-use Rattle.net.proofs.LinkSets.{has-bit, without-none, without-one, apart, common}
+use Rattle.net.proofs.LinkSets.{has-bit, not-both, without-none, without-one, apart, common}
 use Rattle.paths.specs.inner.Cost.{unknown, isKnown}
 use Rattle.paths.specs.inner.Column.{Shows, here, found, none, BestColumn, Restarted}
 use Rattle.paths.specs.declared.cost.Cost.{Cost}
@@ -57,19 +55,6 @@ pub data Tells (N : Network) (X : ℕ → Type 0) (i d : ℕ) (c : Cost) : Type 
 pub weighs-something : (N : Network) → WellFormed N → {i d f : ℕ} {p : List ℕ} → Chain N i (f ∷ p) d → 0 < weightSum N (f ∷ p)
 unfolding weightSum
 weighs-something N W (step present e c) = omega (arith, W .weighs _ present)
-
--- a chain is over the links left in exactly if each link that lies on it is
-over-lies : {X : ℕ → Type 0} {k : ℕ} {p : List ℕ} → Over X p → Lies k p → X k
-over-lies (over-both x o) (on-first e) = rw e at x
-over-lies (over-both x o) (on-later l) = over-lies o l
-
-over-each : {X : ℕ → Type 0} (p : List ℕ) → ((k : ℕ) → Lies k p → X k) → Over X p
-over-each [] each = over-none
-over-each (f ∷ p) each = over-both (each (link f) (on-first refl)) (over-each p (λ k l. each k (on-later l)))
-
--- a link taken out is not left in
-pub not-both : (out : LinkSet) (k : ℕ) → hasLink out k ≡ true → Without out k → ⊥
-not-both out k taken left-in = let z : _≡_ {A = ℕ} 0 1 = cc (taken, left-in) in omega arith
 
 module _ (N : Network) (W : WellFormed N) where
   module _ {X : ℕ → Type 0} {i d : ℕ} {c : Cost} where
@@ -126,13 +111,9 @@ module _ (N : Network) (W : WellFormed N) where
     measured-set m = rw (m .set) (set-of-path W (simple N W (m .best)))
 
     pub measured-link : {p : List ℕ} → Measured N X i d c p → (k : ℕ) → (hasLink (c .links) k ≡ true) ↔ Lies k p
-    measured-link {p} m k =
-        let once = links-once N W (simple N W (m .best)) .distinct in (
-          λ has.
-              let bit-of : bit k (linkSet p) ≡ 1 = rw (m .set) at (has-bit (c .links) k .0 has) in
-              elim (in? k (map link p)) [ inl on ↦ in-lies p on | inr off ↦ absurd (omega (arith, bit-of, bit-out once off)) ],
-          λ lies. has-bit (c .links) k .1 (rw (m .set) (bit-in once (lies-in lies))),
-        )
+    measured-link m k =
+        let lies = path-bit W (simple N W (m .best)) k in
+        (λ has. lies .0 (rw (m .set) at (has-bit (c .links) k .0 has)), λ l. has-bit (c .links) k .1 (rw (m .set) (lies .1 l)))
 
     -- so whether the set meets another tells whether the chain is over the links left in when those are taken out
     pub measured-apart : {p : List ℕ} → Measured N X i d c p → (out : LinkSet) → meeting (c .links) out ≡ false → Over (Without out) p

@@ -34,6 +34,7 @@ use Rattle.net.specs.inner.LinkSet.{value, hasLink, Without}
 use Rattle.net.specs.declared.link_set.LinkSet.{LinkSet}
 use Rattle.net.proofs.Rows.{present-row, row-present}
 use Rattle.net.proofs.Accepted.{well-formed}
+use Rattle.net.proofs.LinkSets.{not-both}
 use Rattle.paths.specs.inner.Cost.{unknown, noCost, isKnown}
 use Rattle.paths.specs.inner.Column.{entryAt, Shows, here, found, Shows.none as no-path, BestColumn}
 use Rattle.paths.specs.inner.Rounds.{unrevised, offer, linkOffers, makesOffers, offeringLinks, turnOf, roundFrom, roundOf}
@@ -42,7 +43,7 @@ use Rattle.paths.specs.declared.cost.Cost.{Cost}
 use Rattle.paths.specs.declared.column.Revised.{Revised}
 use Rattle.paths.proofs.CostNumber.{Limited, number, entry, Fits, blank, known, entry-known, entry-blank}
 use Rattle.paths.proofs.CostNumber.{pair-of-chain, pair-of-nothing}
-use Rattle.paths.proofs.ColumnEntry.{known-true, not-both}
+use Rattle.paths.proofs.ColumnEntry.{known-true}
 use Rattle.paths.proofs.Offers.{entries, firsts, Holds, Offered, offered}
 use Rattle.paths.proofs.Columns.{offer-kept, column-offered, offers-kept, round-kept, turn-below, offering-has}
 

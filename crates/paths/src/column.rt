@@ -6,7 +6,7 @@ ghost use Rattle.graph.specs.Path.{All};
 ghost use Rattle.net.specs.Limits.{mostNodes};
 ghost use Rattle.net.specs.Check.{Accepted};
 ghost use Rattle.net.specs.Rows.{networkOf};
-ghost use Rattle.paths.specs.inner.Column.{BestColumn, Toward, Restarted};
+ghost use Rattle.paths.specs.inner.Column.{BestColumn, OneDestination, Restarted};
 ghost use Rattle.paths.specs.inner.Rounds.{Placed, Linked, startColumn, makesOffers, offeringLinks};
 ghost use Rattle.paths.specs.inner.Rounds.{turnOf, roundOf, settled, blanked};
 use crate::cost::Cost;
@@ -185,7 +185,7 @@ pub fn column_of(
     weight: &[u32],
     destination: Node,
 ) -> [Cost; limit::NODES]
-    requires { ⌜ Toward (record { nodes = n; low = now low; high = now high; weight = now weight }) (destination .0) ⌝ }
+    requires { ⌜ OneDestination (record { nodes = n; low = now low; high = now high; weight = now weight }) (destination .0) ⌝ }
     ensures { λ r. ⌜ BestColumn
         (networkOf (record { nodes = n; low = now (low .entry); high = now (high .entry); weight = now (weight .entry) }))
         All (destination .0) r ⌝ }

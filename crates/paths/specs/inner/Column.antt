@@ -31,7 +31,7 @@ pub record BestColumn (N : Network) (X : ℕ → Type 0) (d : ℕ) (column : Lis
   pub beyond : (i : ℕ) → N .nodes ≤ i → entryAt column i ≡ noCost
 
 -- an accepted network and a node of it
-pub record Toward (R : Rows) (d : ℕ) : Type 0 where
+pub record OneDestination (R : Rows) (d : ℕ) : Type 0 where
   pub network : Accepted R
   pub destination : d < R .nodes
 

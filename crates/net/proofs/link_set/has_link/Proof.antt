@@ -2,6 +2,7 @@
 use mathlib.Core.Path.{refl, sym}
 use native.Mathlib.Omega.{arith}
 use borrow.Author.Needs.{needs}
+use Rattle.net.specs.Limits.{mostLinks}
 use Rattle.net.specs.inner.LinkSet.{value, hasLink}
 use Rattle.net.proofs.LinkSets.{has-link-past}
 use Rattle.net.proofs.link_set.has_link.Statement.{statement}
@@ -9,7 +10,7 @@ use Rattle.net.proofs.link_set.has_link.Tie as tie
 
 returns : tie.Need-returns
 unfolding value
-returns c = sym (has-link-past (c .before .before .args .set) _ (omega arith) (c .if1 .taken))
+returns c = sym (has-link-past (c .before .before .args .set) mostLinks _ (omega arith) (c .if1 .taken))
 
 shr-result : tie.Need-shr-result
 shr-result c = search needs
