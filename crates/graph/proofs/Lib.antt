@@ -15,6 +15,5 @@ pub mod Walk
 pub mod Demand3
 pub mod Arrival
 pub mod Sets
-pub mod Without
 pub mod Dearest
 pub mod Moves
