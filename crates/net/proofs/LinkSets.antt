@@ -11,7 +11,7 @@ use lib.Bits.{bitAnd, bitOr}
 use lib.Dec.{ltb, eqb}
 use Rattle.graph.specs.Set.{bit}
 use Rattle.graph.proofs.Sets.{bit-or, bit-own, bit-other, bit-and, some-bit}
-use Rattle.net.specs.inner.LinkSet.{value, noLinks, withLink, hasLink, comesBefore, meeting, Without}
+use Rattle.net.specs.inner.LinkSet.{value, noLinks, withLink, hasLink, isEmpty, comesBefore, meeting, Without}
 use Rattle.net.specs.declared.link_set.LinkSet.{LinkSet}
 
 true-not-false : true ≡ false → ⊥
@@ -37,6 +37,14 @@ value-with s k = refl
 pub before-value : (a b : LinkSet) → comesBefore a b ≡ ltb (value a) (value b)
 unfolding comesBefore
 before-value a b = refl
+
+pub empty-value : (s : LinkSet) → (isEmpty s ≡ true) ↔ (value s ≡ 0)
+unfolding isEmpty
+empty-value s = (eqb-true (value s) 0, eq-eqb (value s) 0)
+
+pub some-value : (s : LinkSet) → (isEmpty s ≡ false) ↔ (value s ≢ 0)
+unfolding isEmpty
+some-value s = (eqb-false (value s) 0, ne-eqb (value s) 0)
 
 pub has-bit : (s : LinkSet) (k : ℕ) → (hasLink s k ≡ true) ↔ (bit k (value s) ≡ 1)
 unfolding hasLink

@@ -3,7 +3,7 @@
 ghost use mathlib.Core.Path.{_≡_};
 ghost use Prim.Native.Nat.{_<_};
 ghost use Rattle.net.specs.Limits.{mostLinks};
-ghost use Rattle.net.specs.inner.LinkSet.{value, noLinks, withLink, hasLink, comesBefore, meeting};
+ghost use Rattle.net.specs.inner.LinkSet.{value, noLinks, withLink, hasLink, isEmpty, comesBefore, meeting};
 use crate::interface::Link;
 use crate::limit;
 
@@ -34,6 +34,12 @@ pub fn has_link(set: LinkSet, link: Link) -> bool
         return false;
     }
     (set.word >> link.0) % 2 == 1
+}
+
+pub fn is_empty(set: LinkSet) -> bool
+    ensures { λ r. ⌜ r ≡ isEmpty set ⌝ }
+{
+    set.word == 0
 }
 
 // Whether the first lacks the highest link that is in only one of them.

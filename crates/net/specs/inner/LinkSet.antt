@@ -20,6 +20,9 @@ withLink s k = record { word = bitOr (s .word) (2 ^ k) }
 unfoldable pub hasLink : LinkSet → ℕ → Bool
 hasLink s k = eqb (bit k (value s)) 1
 
+unfoldable pub isEmpty : LinkSet → Bool
+isEmpty s = eqb (value s) 0
+
 -- the first lacks the highest link that is in only one of them: that is the smaller number (graph's Order)
 unfoldable pub comesBefore : LinkSet → LinkSet → Bool
 comesBefore a b = ltb (value a) (value b)
