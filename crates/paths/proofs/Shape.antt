@@ -23,12 +23,12 @@ rows-of own n (row ∷ rows) (value ∷ values) owned zero h = owned .0 .1 .0 .1
 rows-of own n (row ∷ rows) (value ∷ values) owned (suc i) h = rows-of own n rows values (owned .1) i (omega arith)
 
 -- a column for each destination there may be, with a place for each node; in memory each column is one row of the square
-pub record Shaped (square : List (List Cost)) : Type 0 where
+pub record Shaped {A : Type 0} (square : List (List A)) : Type 0 where
   pub rows : length square ≡ mostNodes
   pub row : (d : ℕ) → d < mostNodes → length (getD square d []) ≡ mostNodes
 
-pub array-shaped : (own : Cost → List Val → Fml) (square : List (List Cost)) (values : List Val) → length square ≡ mostNodes
-    → shadow (each (List Cost) (inArray Cost own mostNodes) square values) → Shaped square
+pub array-shaped : {A : Type 0} (own : A → List Val → Fml) (square : List (List A)) (values : List Val) → length square ≡ mostNodes
+    → shadow (each (List A) (inArray A own mostNodes) square values) → Shaped square
 array-shaped own square values long owned =
     record { rows = long; row = λ d h. rows-of own mostNodes square values owned d (omega arith) }
 

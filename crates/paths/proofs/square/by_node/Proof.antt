@@ -1,20 +1,24 @@
 -- `by_node` stores one entry a turn of the inner loop: the entries passed are those of the square turned.
 use Prim.Native.Nat.{_-_}
+use mathlib.Core.List.{[]}
 use native.Mathlib.Omega.{arith}
+use lib.ListN.{getD}
+use Rattle.paths.specs.inner.Cost.{noCost}
+use Rattle.paths.specs.inner.Column.{entryAt}
 use Rattle.paths.specs.inner.Square.{columnFor}
-use Rattle.paths.proofs.Shape.{Shaped, array-shaped, read-at}
+use Rattle.paths.proofs.Shape.{Shaped, array-shaped, within}
 use Rattle.paths.proofs.Turning.{Turned, turned-start, turned-more, turned-row}
 use Rattle.paths.proofs.square.by_node.Statement.{statement}
 use Rattle.paths.proofs.square.by_node.Tie as tie
 
 abbrev Inv-loop2 : tie.InvT-loop2
-Inv-loop2 n square turned₀ i d₀ turned d = Turned square n i d turned
+Inv-loop2 n square turned₀ i d₀ turned d = Turned noCost square n i d turned
 
 abbrev μ-loop2 : tie.MeasureT-loop2
 μ-loop2 n square turned₀ i d₀ turned d = n - d
 
 abbrev Inv-loop : tie.InvT-loop
-Inv-loop n square turned₀ i₀ turned i = Turned square n i 0 turned
+Inv-loop n square turned₀ i₀ turned i = Turned noCost square n i 0 turned
 
 abbrev μ-loop : tie.MeasureT-loop
 μ-loop n square turned₀ i₀ turned i = n - i
@@ -24,7 +28,7 @@ shaped : (c : tie.Start Inv-loop2 μ-loop2 Inv-loop μ-loop) → Shaped (c .args
 shaped c = array-shaped _ (c .args .t1) (c .good .0 .0) (c .good .0 .1 .0 .1) (c .good .0 .1 .1)
 
 loop-holds : tie.Need-loop-holds Inv-loop2 μ-loop2 Inv-loop μ-loop
-loop-holds c = turned-start (shaped c)
+loop-holds c = turned-start noCost (shaped c)
 
 loop2-holds : tie.Need-loop2-holds Inv-loop2 μ-loop2 Inv-loop μ-loop
 loop2-holds c = c .before .loop .inv
@@ -60,13 +64,12 @@ loop2-less : tie.Need-loop2-less Inv-loop2 μ-loop2 Inv-loop μ-loop
 loop2-less c = omega arith
 
 loop2-again : tie.Need-loop2-again Inv-loop2 μ-loop2 Inv-loop μ-loop
-unfolding columnFor
 loop2-again c =
     let start = c .before .before .before .before .before in
     let i = c .before .before .before .before .loop .i in
     let at = c .before .before .loop2 in
-    turned-more (at .inv) (omega arith) (omega arith)
-    (read-at (columnFor (start .args .t1) (at .d)) i (omega (arith, shaped start .row (at .d) (omega arith))) _)
+    turned-more noCost (at .inv) (omega arith) (omega arith)
+    (within (getD (start .args .t1) (at .d) []) i _ noCost (omega (arith, shaped start .row (at .d) (omega arith))))
 
 add-i : tie.Need-add-i Inv-loop2 μ-loop2 Inv-loop μ-loop
 add-i c = omega arith
@@ -75,9 +78,10 @@ loop-less : tie.Need-loop-less Inv-loop2 μ-loop2 Inv-loop μ-loop
 loop-less c = omega arith
 
 loop-again : tie.Need-loop-again Inv-loop2 μ-loop2 Inv-loop μ-loop
-loop-again c = turned-row (c .before .loop2 .inv) (omega arith)
+loop-again c = turned-row noCost (c .before .loop2 .inv) (omega arith)
 
 returns : tie.Need-returns Inv-loop2 μ-loop2 Inv-loop μ-loop
+unfolding entryAt columnFor
 returns c = λ i d node. c .before .loop .inv .passed i d (omega arith)
 
 pub by-node-spec : {M : Type 1} → statement M
