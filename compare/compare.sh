@@ -46,9 +46,9 @@ example() {
     "$out/generate" example "$1" | cmp - "plans/$1.plan"
 }
 
-# the first 150 networks hold every deliberate one; under the emulator, some thirty times slower, they must do
+# the first 170 networks hold every deliberate one; under the emulator, some thirty times slower, they must do
 networks=500
-[ "$(uname -m)" = x86_64 ] || networks=150
+[ "$(uname -m)" = x86_64 ] || networks=170
 
 if compile second/second.rs second && compile compare/generate/main.rs generate && compile compare/compare.rs compare &&
     compile compare/compare_reports.rs compare_reports; then

@@ -17,6 +17,7 @@
 
 mod chance;
 mod codec_batch;
+mod detours;
 mod examples;
 mod networks;
 mod record;

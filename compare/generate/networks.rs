@@ -2,6 +2,7 @@
 //! shapes, and shapes at random.
 
 use crate::chance::Chance;
+use crate::detours;
 use crate::record::LONGEST_ROW;
 use crate::shapes::Shape;
 
@@ -204,6 +205,7 @@ pub fn net_list(chance: &mut Chance) -> Vec<NetCase> {
             list.push(("large weights", Net::of(chance, &shape, weights)));
         }
     }
+    list.extend(detours::list(chance));
     list
 }
 
@@ -229,6 +231,9 @@ pub fn net_at_random(chance: &mut Chance) -> NetCase {
 }
 
 pub fn net_of_size(chance: &mut Chance, nodes: usize) -> NetCase {
+    if nodes >= 5 && chance.one_in(8) {
+        return detours::at_random(chance, nodes);
+    }
     let (name, shape) = match chance.below(6) {
         0 if nodes >= 4 => {
             let cut = chance.between(2, nodes - 2);

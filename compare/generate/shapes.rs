@@ -107,10 +107,16 @@ impl Shape {
     /// The same with other node numbers, and so other link numbers, which
     /// decide between equal paths.
     pub fn renumbered(&self, chance: &mut Chance) -> Shape {
-        let mut number: Vec<usize> = (0..self.nodes).collect();
-        for place in 1..self.nodes {
-            number.swap(place, chance.below(place + 1));
-        }
+        let number = numbers(chance, self.nodes);
         Shape::of(self.nodes, self.pairs.iter().map(|&(low, high)| (number[low], number[high])))
     }
+}
+
+/// A new number for each of so many nodes.
+pub fn numbers(chance: &mut Chance, nodes: usize) -> Vec<usize> {
+    let mut number: Vec<usize> = (0..nodes).collect();
+    for place in 1..nodes {
+        number.swap(place, chance.below(place + 1));
+    }
+    number
 }

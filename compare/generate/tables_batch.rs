@@ -1,6 +1,7 @@
 //! Sub-command `tables`: a batch of records for paths, key links, tables, steps
 //! and walks. It reaches every refusal, every ending, equal paths, bridges,
-//! separate parts, the limits and what lies one past them.
+//! separate parts, interfaces with several key links, the limits and what lies
+//! one past them.
 //!
 //! COUNT is the number of good networks; each brings records of every kind. A
 //! list of deliberate networks comes first, the rest is drawn at random.
