@@ -16,7 +16,7 @@ use Rattle.graph.specs.Network.{Network, WellFormed, link, tail}
 use Rattle.graph.specs.Path.{Chain, Path, visits, Lies, here, later, Over, Over.none as over-none, Over.both as over-both}
 use Rattle.graph.specs.Path.{BestPath, All, But}
 use Rattle.graph.specs.Path.{Each, Each.none as each-none, Each.both as each-both, Distinct, Distinct.none as distinct-none, fresh}
-use Rattle.graph.specs.Entries.{onward}
+use Rattle.graph.specs.Entries.{onward, Aside}
 use Rattle.graph.specs.Walk.{Tables, failedBy, Ending, delivered, unrouted, dropped, walkOf}
 use Rattle.graph.specs.Demand3.{BuiltEntries, Works, Demand3}
 use Rattle.graph.specs.Later.{RightEntries, LeavesIn, FirmDetour}
@@ -29,7 +29,7 @@ use Rattle.graph.proofs.Simple.{simple, short, distinct-links, chain-en
 use Rattle.graph.proofs.Agreement.{path-best, best-path}
 use Rattle.graph.proofs.Keys.{over-at, over-all, all-path}
 use Rattle.graph.proofs.Entries.{hopOf, best-entry, entry-one, entry-best, no-chain-entry}
-use Rattle.graph.proofs.Walk.{own-link-out, built-right, Strays, Goes, laststep, goes-walk, lost-walk, follows}
+use Rattle.graph.proofs.Walk.{own-and-keys-out, built-right, Strays, Goes, laststep, goes-walk, lost-walk, follows}
 use Rattle.graph.proofs.Walk.{follows-up-to, at-failed-link}
 
 -- How a walk from s goes, by the interfaces crossed and the ending.
@@ -284,8 +284,8 @@ module _ (N : Network) (W : WellFormed N) (d : ℕ) (Y : ℕ → ℕ → Type 0)
       by-outcome (round a f b way t fails works path works-on strays e) = record
           { before = a; meets = f; failed = fails; after = b; best = best-path N W t; rest = way; crossed = e; once = path .once }
 
--- demand 3, over the entries of document 01
+-- demand 3, over the entries as they are defined
 pub demand-3 : (N : Network) → WellFormed N → (T : Tables) (d : ℕ) → BuiltEntries N d T → (failure : Option ℕ) (s limit : ℕ)
     → s < N .nodes → d < N .nodes → s ≢ d → 2 * N .nodes ≤ limit + 3
     → Demand3 N failure s d (walkOf N (failedBy failure) T d limit s)
-demand-3 N W T d built = demand-3-by-rule N W d (λ h. But (link h)) (own-link-out N d) T (built-right built)
+demand-3 N W T d built = demand-3-by-rule N W d (Aside N d) (own-and-keys-out N d) T (built-right built)

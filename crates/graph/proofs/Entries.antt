@@ -11,7 +11,7 @@ use native.Mathlib.Omega.{arith}
 use Rattle.graph.specs.Network.{Network, WellFormed, link, reverse, tail, head}
 use Rattle.graph.specs.Path.{Chain, stop, Over, none, All, But}
 use Rattle.graph.specs.Entries.{Hop, here, onward, nowhere, Entry, at-destination, starts, lacks, KeyLink, Free, RoutingEntry}
-use Rattle.graph.specs.Entries.{ForwardingEntry, BackwardingEntry}
+use Rattle.graph.specs.Entries.{ForwardingEntry, Aside, BackwardingEntry}
 use Rattle.graph.specs.Later.{NearestKeyLink}
 use Rattle.graph.proofs.Interfaces.{link-reverse}
 use Rattle.graph.proofs.Chain.{Best, cost, back, link-cost-positive, cost-append, chain-nil, best-from, best-after, best-fewer}
@@ -20,7 +20,7 @@ use Rattle.graph.proofs.Unique.{unique}
 use Rattle.graph.proofs.Simple.{simple, get}
 use Rattle.graph.proofs.Agreement.{path-best, best-path}
 use Rattle.graph.proofs.Keys.{Key, over-at, over-all, over-by-places, key-on, key-towards, but?, key-link, detour-key}
-use Rattle.graph.proofs.Keys.{link-key, free-best, key-at, all-path, keys?}
+use Rattle.graph.proofs.Keys.{link-key, free-best, key-at, all-path, keys?, free?}
 
 -- the entry that a best path gives
 abbrev pub hopOf : List ℕ → Hop
@@ -81,17 +81,27 @@ module _ (N : Network) (W : WellFormed N) where
     routing-entry i = has-entry (λ k. yes tt)
 
     pub backwarding-entry : (h : ℕ) → (e : Hop) × BackwardingEntry N d h e
-    backwarding-entry h = has-entry (but? (link h))
+    backwarding-entry h = has-entry aside?
+      where
+        aside? : (k : ℕ) → Dec (Aside N d h k)
+        aside? k =
+            elim (but? (link h) k) [
+              | no own ↦ no (λ left-in. own (left-in .0))
+              | yes other ↦ elim (free? N W d h k) [
+                | yes free ↦ yes (other, free)
+                | no key ↦ no (λ left-in. key (left-in .1))
+              ]
+            ]
 
     module _ (h : ℕ) where
-      -- an interface has key links only where its head routes straight back over it
-      pub elsewhere-has-no-key : {e : Hop} → RoutingEntry N d (head N h) e → e ≢ onward (reverse h) → (k : ℕ) → Free N d h k
-      elsewhere-has-no-key entry other k key = other (entry-best entry (path-best N W (key .routing)))
-
       -- with no key links the forwarding entry is the routing entry of the head
       pub forwarding-by-routing : {e : Hop} → ((k : ℕ) → Free N d h k) → RoutingEntry N d (head N h) e ↔ ForwardingEntry N d h e
       forwarding-by-routing free =
           (same-links-entry (λ k o. free k) (λ k o. tt), same-links-entry (λ k o. tt) (λ k o. free k))
+
+      -- with no key links the interface's own link alone is taken out for the backwarding entry
+      pub backwarding-by-own : {e : Hop} → ((k : ℕ) → Free N d h k) → Entry N (But (link h)) (tail N h) d e → BackwardingEntry N d h e
+      backwarding-by-own free = same-links-entry (λ k other. (other, free k)) (λ k left-in. left-in .0)
 
       -- the nearest key link and the detour that it gives
       pub nearest-detour : {k : ℕ} → NearestKeyLink N d h k → (S : List ℕ) × Best N (Free N d h) (head N h) S d × Best N (But k) (head N h) S d

@@ -356,15 +356,34 @@ module _ (N : Network) (W : WellFormed N) where
   all-path i d =
       elim (get N W {X = All} (λ k. yes tt) i d) [ inl found ↦ inl found | inr c ↦ inr (λ p t. c p t (over-all (λ k. tt) p)) ]
 
-  -- an interface has no key links, or a detour
-  pub keys? : (d h : ℕ) → ((k : ℕ) → Free N d h k) ⊎ ((S : List ℕ) × Detour N d h S)
-  keys? d h =
+  -- an interface has no key links, or its head routes straight back over it
+  routed-back? : (d h : ℕ) → ((k : ℕ) → Free N d h k) ⊎ ((P : List ℕ) × Best N All (head N h) (reverse h ∷ P) d)
+  routed-back? d h =
       elim (all-path (head N h) d) [ inl (M, t) ↦ by-path M t | inr c ↦ inl (λ k key. c _ (key .routing .path .chain)) ]
     where
-      by-path : (M : List ℕ) → Best N All (head N h) M d → ((k : ℕ) → Free N d h k) ⊎ ((S : List ℕ) × Detour N d h S)
+      by-path : (M : List ℕ) → Best N All (head N h) M d
+          → ((k : ℕ) → Free N d h k) ⊎ ((P : List ℕ) × Best N All (head N h) (reverse h ∷ P) d)
       by-path [] t = inl (not-back-has-no-key t (λ P e. let z : _≡_ {A = ℕ} 0 1 = cc in omega arith))
       by-path (f ∷ M) t =
           elim (ℕ-discrete f (reverse h)) [
-            | yes e ↦ keys-back (rw e at t)
+            | yes e ↦ inr (M, rw e at t)
             | no n ↦ inl (not-back-has-no-key t (λ P e. n (cc)))
           ]
+
+  -- an interface has no key links, or a detour
+  pub keys? : (d h : ℕ) → ((k : ℕ) → Free N d h k) ⊎ ((S : List ℕ) × Detour N d h S)
+  keys? d h = elim (routed-back? d h) [ inl free ↦ inl free | inr (P, main) ↦ keys-back main ]
+
+  -- whether a link is key can be told: a key link lies on the best path of the head, and is tried at its place there
+  pub free? : (d h k : ℕ) → Dec (Free N d h k)
+  free? d h k =
+      elim (routed-back? d h) [
+        | inl free ↦ yes (free k)
+        | inr (P, main) ↦ elim (find k P) [
+          | inl off ↦ yes (λ key. not-on off (key-on main (link-key key)))
+          | inr on ↦ elim (key-or-free (on .before) (on .crossing) (on .after) (rw (on .split) at main)) [
+            | inl key ↦ no (λ free. free (rw (on .is) at (key-link key)))
+            | inr free ↦ yes (rw (on .is) at free)
+          ]
+        ]
+      ]

@@ -13,7 +13,7 @@ use borrow.Author.Tests.{eq-eqb, ne-eqb}
 use Rattle.graph.specs.Network.{Network, WellFormed, link, reverse, tail, head}
 use Rattle.graph.specs.Path.{Chain, Path, Over, both, All, But}
 use Rattle.graph.specs.Path.{Each, Each.none as each-none, Each.both as each-both}
-use Rattle.graph.specs.Entries.{Hop, onward, nowhere, Entry, Free}
+use Rattle.graph.specs.Entries.{Hop, onward, nowhere, Entry, Free, Aside}
 use Rattle.graph.specs.Walk.{Tables, around, stepBy, Ending, delivered, unrouted, dropped, exhausted, astray, endsBy, crossing}
 use Rattle.graph.specs.Walk.{goesOn, walkFrom}
 use Rattle.graph.specs.Demand3.{BuiltEntries, Works}
@@ -27,12 +27,12 @@ use Rattle.graph.proofs.Keys.{Detour, over-all, but?, key-link, free-be
 use Rattle.graph.proofs.Entries.{hopOf, apart, entry-one, entry-best, no-chain-entry}
 use Rattle.graph.proofs.Entries.{routing-entry, forwarding-entry, backwarding-entry}
 
--- document 01's rule: the interface's own link alone
-pub own-link-out : (N : Network) (d : ℕ) → LeavesIn N d (λ h. But (link h))
-own-link-out N d = record { without-own = λ h k o. o; all-others = λ h free k o. o }
+-- document 02's rule (L2): the interface's own link and its key links
+pub own-and-keys-out : (N : Network) (d : ℕ) → LeavesIn N d (Aside N d)
+own-and-keys-out N d = record { without-own = λ h k left-in. left-in .0; all-others = λ h free k other. (other, free k) }
 
 -- the built tables are right by that rule
-pub built-right : {N : Network} {d : ℕ} {T : Tables} → BuiltEntries N d T → RightEntries N d (λ h. But (link h)) T
+pub built-right : {N : Network} {d : ℕ} {T : Tables} → BuiltEntries N d T → RightEntries N d (Aside N d) T
 built-right built = record { routing = built .routing; forwarding = built .forwarding; backwarding = built .backwarding }
 
 -- and there are such tables for every destination

@@ -45,6 +45,11 @@ Free N d h k = KeyLink N d h k → ⊥
 abbrev pub ForwardingEntry : Network → ℕ → ℕ → Hop → Type 0
 ForwardingEntry N d h = Entry N (Free N d h) (head N h) d
 
--- "Backwarding entry of interface i to j for d: the first node on the best path from i to d when link i-j is taken out."
+-- the links left in when the link of interface h is taken out, and its key links for d with it
+abbrev pub Aside : Network → ℕ → ℕ → ℕ → Type 0
+Aside N d h k = But (link h) k × Free N d h k
+
+-- "Backwarding entry of interface i to j for d: the first node on the best path from i to d when link i-j is taken out." "Source
+-- document 000 also takes out the interface's key links. Adopt that rule." (document 02, L2)
 abbrev pub BackwardingEntry : Network → ℕ → ℕ → Hop → Type 0
-BackwardingEntry N d h = Entry N (But (link h)) (tail N h) d
+BackwardingEntry N d h = Entry N (Aside N d h) (tail N h) d

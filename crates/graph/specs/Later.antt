@@ -1,5 +1,6 @@
--- What later requests ask for (document 02): a firmer promise for the detour, and backwarding entries by another rule. No promise of
--- today cites it; the theorems on it are proved already, and demand 3 is their first instance.
+-- What later requests ask for (document 02): a firmer promise for the detour, and the nearest key link. No promise of today cites them;
+-- the theorems on them are proved already. And the rules for backwarding entries under which demand 3 holds: today's, with the key links
+-- taken out (L2), is one of them.
 use mathlib.Core.Path.{_≡_}
 use mathlib.Core.Bool.{true}
 use mathlib.Core.List.{List, _∷_, _++_}
@@ -32,7 +33,7 @@ pub record FirmDetour (N : Network) (failure : Option ℕ) (s d : ℕ) (c : Cour
   pub crossed : c .crossed ≡ before ++ rest
   pub once : Distinct (visits N (tail N meets) rest)
 
--- Backwarding entries by another rule: `Y h` are the links left in for interface h, and the entries are right for that rule.
+-- Backwarding entries by any rule: `Y h` are the links left in for interface h, and the entries are right for that rule.
 pub record RightEntries (N : Network) (d : ℕ) (Y : ℕ → ℕ → Type 0) (T : Tables) : Type 0 where
   pub routing : (i : ℕ) → i < N .nodes → RoutingEntry N d i (T .routing i)
   pub forwarding : (h : ℕ) → N .Present (link h) → ForwardingEntry N d h (T .forwarding h)

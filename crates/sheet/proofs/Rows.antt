@@ -23,17 +23,17 @@ use Rattle.plan.specs.Number.{groupsOf, stored, groupsFrom, numberAt}
 use Rattle.plan.specs.Reader.{refusal, takeWeight, weightAt, takeDifference, differenceAt, takeLow, linkAt, takeLink, linksRead}
 use Rattle.plan.specs.Reader.{takeLinkCount, linkCountAt, takeNodeCount, readPlan}
 use Rattle.plan.specs.declared.reader.Reading.{Reading}
-use Rattle.net.specs.inner.LinkSet.{value as setValue, noLinks, withLink, hasLink, comesBefore, meeting}
+use Rattle.net.specs.inner.LinkSet.{value as setValue, noLinks, withLink, hasLink, isEmpty, comesBefore, meeting}
 use Rattle.paths.specs.inner.Cost.{noCost, hereCost, isKnown, before, extended}
 use Rattle.paths.specs.inner.Column.{entryAt}
 use Rattle.paths.specs.inner.Rounds.{startColumn, offer, linkOffers, makesOffers, offeringFrom, offeringLinks, turnOf}
 use Rattle.paths.specs.inner.Rounds.{roundFrom, roundOf, roundsFrom, settled, blankFrom, blanked}
 use Rattle.tables.specs.inner.KeyTest.{crossesLink, keyTest}
-use Rattle.tables.specs.inner.Detours.{dearerOf, noted, forwardCost}
+use Rattle.tables.specs.inner.Detours.{dearerOf, noted, nothingKept, keysFor, forwardCost}
 use Rattle.tables.proofs.Tests.{both-true}
 use Rattle.sheet.specs.Sheet.{courseIn, planA, squarePlan, pairPlan}
 use Rattle.sheet.specs.Sheet.{Row, routes, keys, forwards, backwards, walks, stores, refuses, Holds, Every, none, more, rows}
-use Rattle.sheet.proofs.Computed.{told, costBut, costAll, routed, backwarded, isKey, keysBelow, keptBelow, forwarded, computed}
+use Rattle.sheet.proofs.Computed.{told, costBut, costAll, routed, keptBelow, keysOf, forwarded, backwarded, computed}
 use Rattle.sheet.proofs.Computed.{routed-entry, keys-are, forwarded-entry, backwarded-entry, computed-built}
 use Rattle.sheet.proofs.SameWalk.{same-walk}
 
@@ -75,7 +75,7 @@ given (refuses s number place) = read (refusal number place)
 -- and what is computed for it
 unfoldable pub answered : Row → Answer
 answered (routes R i d byte) = value (byteOf (networkOf R) (routed R d i))
-answered (keys R h d set) = value (keysBelow R d h (length (R .low)))
+answered (keys R h d set) = value (setValue (keysOf R d h))
 answered (forwards R h d byte) = value (byteOf (networkOf R) (forwarded R d h))
 answered (backwards R h d byte) = value (byteOf (networkOf R) (backwarded R d h))
 answered (walks R j trace ending) =
@@ -104,7 +104,7 @@ row-holds (routes R i d byte) fit same =
     record { hop = routed R d i; entry = routed-entry R (t .network) d (t .destination) i (t .below); is = cc }
 row-holds (keys R h d set) fit same =
     let t = within-true R d (link h) (length (R .low)) fit in
-    let is : set ≡ keysBelow R d h (length (R .low)) = cc in
+    let is : set ≡ setValue (keysOf R d h) = cc in
     rw is (keys-are R (t .network) d (t .destination) h (row-present R (link h) (t .below)))
 row-holds (forwards R h d byte) fit same =
     let t = within-true R d (link h) (length (R .low)) fit in
@@ -136,10 +136,10 @@ pub bench-sheet : Every Holds rows
 unfolding rows allFit fits within given answered
     planA squarePlan pairPlan comesAfter badEnds badWeight outOfOrder linkFault linksFrom rowsDiffer badNodeCount checkNetwork
     link reverse byDirection tail head visits failedBy around stepBy endsBy crossing goesOn walkFrom walkOf byteOf
-    setValue noLinks withLink hasLink comesBefore meeting noCost hereCost isKnown before extended entryAt
+    setValue noLinks withLink hasLink isEmpty comesBefore meeting noCost hereCost isKnown before extended entryAt
     startColumn offer linkOffers makesOffers offeringFrom offeringLinks turnOf roundFrom roundOf roundsFrom settled blankFrom blanked
-    crossesLink keyTest dearerOf noted forwardCost
-    told costBut costAll routed backwarded isKey keysBelow keptBelow forwarded computed
+    crossesLink keyTest dearerOf noted nothingKept keysFor forwardCost
+    told costBut costAll routed keptBelow keysOf forwarded backwarded computed
     groupsOf stored groupsFrom numberAt refusal takeWeight weightAt takeDifference differenceAt takeLow linkAt takeLink linksRead
     takeLinkCount linkCountAt takeNodeCount readPlan
 bench-sheet = all-hold rows refl refl

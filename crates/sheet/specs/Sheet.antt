@@ -98,9 +98,9 @@ rows =
     -- "forwarding 1 to 0 for 3 is 3; P: forwarding 2 to 0 for 3 is 1."
     ∷ forwards planA 1 3 3
     ∷ forwards planA 3 3 1
-    -- "backwarding 0 to 1 for 3 is 2; P: backwarding 1 to 0 for 3 is 2."
+    -- "backwarding 0 to 1 for 3 is 2"; "Backwarding 1 to 0 for 3 becomes 255 and that bench row changes." (document 02, L2)
     ∷ backwards planA 0 3 2
-    ∷ backwards planA 1 3 2
+    ∷ backwards planA 1 3 255
     -- "0 to 3, link 1-2 failed: 0 1 0 3, though 0 2 3 would be cheaper after 0."
     ∷ walks planA (failing 3 0 3) (0 ∷ 1 ∷ 0 ∷ 3 ∷ []) delivered
     -- "0 to 3, link 2-3 failed: 0 1 2 1 0 3, 5 hops, which is 2n - 3. With hop limit 4: ending 3, trace 0 1 2 1 0."

@@ -18,9 +18,11 @@ use Rattle.paths.specs.inner.Column.{Shows}
 use Rattle.paths.specs.inner.Square.{cell, BestSquare}
 use Rattle.paths.specs.declared.cost.Cost.{Cost}
 use Rattle.paths.proofs.ColumnEntry.{known-true, known-false, Tells, leads, leads-nowhere, shown-tells}
-use Rattle.tables.specs.Entry.{RoutingByte, ForwardingByte, BackwardingByte}
+use Rattle.tables.specs.Entry.{RoutingByte, ForwardingByte}
+use Rattle.tables.specs.declared.kept.Kept.{Kept}
+use Rattle.tables.specs.inner.Backward.{OwnByte}
 use Rattle.tables.specs.inner.EntryRow.{entryByte}
-use Rattle.tables.specs.inner.Detours.{forwardCost, AllDetours}
+use Rattle.tables.specs.inner.Detours.{forwardCost, keptFor, keptAt, SquareKept}
 use Rattle.tables.proofs.Forwarding.{forward-tells}
 
 module _ (R : Rows) (A : Accepted R) where
@@ -40,7 +42,7 @@ module _ (R : Rows) (A : Accepted R) where
     tells-byte away (leads-nowhere h entry) = rw (ne-eqb i d away, known-false c .1 h) (nowhere-byte entry)
     tells-byte away (leads h entry) = rw (ne-eqb i d away, known-true c .1 h) (onward-byte R W (A .few-nodes) entry)
 
-    shown-byte : Shows (networkOf R) X i d c → EntryByte (networkOf R) X i d (entryByte low high i d c)
+    pub shown-byte : Shows (networkOf R) X i d c → EntryByte (networkOf R) X i d (entryByte low high i d c)
     shown-byte shown =
         elim (ℕ-discrete i d) [
           | yes e ↦ at-destination-byte e
@@ -52,20 +54,20 @@ module _ (R : Rows) (A : Accepted R) where
       → RoutingByte (networkOf R) i d (entryByte low high i d (cell all i d))
   routing-byte all whole {i} {d} node destination = shown-byte (cell all i d) (whole d destination .shows i node)
 
-  -- backwarding, by the square without the interface's link
-  pub backwarding-byte : (without : List (List Cost)) (h : ℕ) → Present R (link h) → BestSquare (networkOf R) (But (link h)) without
+  -- without the interface's own link alone, by the square without it
+  pub own-byte : (without : List (List Cost)) (h : ℕ) → Present R (link h) → BestSquare (networkOf R) (But (link h)) without
       → {i d : ℕ} → tail (networkOf R) h ≡ i → d < n
-      → BackwardingByte (networkOf R) h d (entryByte low high i d (cell without i d))
-  backwarding-byte without h up less {i} {d} is destination =
+      → OwnByte (networkOf R) h d (entryByte low high i d (cell without i d))
+  own-byte without h up less {i} {d} is destination =
       let N = networkOf R in
       rw (← is) (shown-byte _ (less d destination .shows (tail N h) (tail-node N W h up)))
 
-  -- forwarding, by the square over all links and the dearest detours
-  pub forward-byte : (all kept : List (List Cost)) → BestSquare (networkOf R) All all
-      → AllDetours (networkOf R) (length low) all kept → (h : ℕ) → Present R (link h)
+  -- forwarding, by the square over all links and what is kept of them
+  pub forward-byte : (all : List (List Cost)) (kept : List (List Kept)) → BestSquare (networkOf R) All all
+      → SquareKept (networkOf R) (length low) all kept → (h : ℕ) → Present R (link h)
       → {i d : ℕ} → head (networkOf R) h ≡ i → d < n
-      → ForwardingByte (networkOf R) h d (entryByte low high i d (forwardCost h (cell all i d) (cell kept i d)))
-  forward-byte all kept whole detours h up {i} {d} is destination =
+      → ForwardingByte (networkOf R) h d (entryByte low high i d (forwardCost h (cell all i d) (keptAt (keptFor kept d) i)))
+  forward-byte all kept whole keeps h up {i} {d} is destination =
       let N = networkOf R in
       let node = head-node N W h up in
       rw (← is)
@@ -73,5 +75,5 @@ module _ (R : Rows) (A : Accepted R) where
         | yes e ↦ at-destination-byte _ e
         | no away ↦
             tells-byte _ away
-            (forward-tells N W h away _ _ (whole d destination .shows (head N h) node) (detours d destination (head N h) node away))
+            (forward-tells N W h away _ _ (whole d destination .shows (head N h) node) (keeps d destination (head N h) node))
       ])

@@ -7,19 +7,21 @@ use borrow.Author.Tests.{lt-leb}
 use lib.ListN.{length}
 use lib.Dec.{leb}
 use Rattle.graph.specs.Network.{Network, WellFormed}
-use Rattle.graph.specs.Entries.{Entry}
+use Rattle.graph.specs.Set.{SetOf}
+use Rattle.graph.specs.Entries.{Entry, KeyLink}
 use Rattle.graph.proofs.Entries.{entry-one}
 use Rattle.net.specs.Refusals.{accepted, tableLength, interfaceNumber, nodeNumber}
 use Rattle.net.specs.Check.{Accepted, verdict, checkNetwork, orElse, refusedIf}
-use Rattle.net.specs.Rows.{Rows}
+use Rattle.net.specs.Rows.{Rows, networkOf}
 use Rattle.net.specs.Entry.{EntryByte}
 use Rattle.net.specs.declared.check.Verdict.{Verdict}
 use Rattle.net.proofs.Accepted.{accepts-check, well-formed}
 use Rattle.net.proofs.Verdicts.{or-else-second, not-refused}
-use Rattle.tables.specs.Key.{keyLinksVerdict}
+use Rattle.tables.specs.Key.{keyLinksVerdict, KeyLinksAnswer}
 use Rattle.tables.specs.Build.{buildVerdict, BuildAnswer}
 use Rattle.tables.specs.Lent.{LentTables, LongEnough}
 use Rattle.tables.specs.Demand2.{TheEntry, Demand2}
+use Rattle.tables.specs.declared.key.KeyLinks.{KeyLinks}
 use Rattle.tables.proofs.Lengths.{long-tables}
 
 -- a byte that is an entry's is the byte of the only one
@@ -46,6 +48,13 @@ module _ (R : Rows) (A : Accepted R) where
       ∙ or-else-second _ _ (ap (λ (v : Verdict). v .number) passed)
       ∙ not-refused nodeNumber (lt-leb _ _ destination)
 
+  -- the answer of `key_links` on an interface and a node of the network
+  pub key-links-found : {h d : ℕ} {keys : KeyLinks} → h < 2 * length low → d < n → KeyLinksAnswer R h d keys
+      → (keys .number ≡ accepted) × SetOf (length low) (KeyLink (networkOf R) d h) (keys .links)
+  key-links-found {keys = keys} interface destination answer =
+      let accepts : keys .number ≡ accepted = answer .number ∙ ap (λ (v : Verdict). v .number) (numbers-pass interface destination) in
+      (accepts, answer .keys accepts)
+
   pub demand-2 : {before after : LentTables} {r : Verdict} → LongEnough n (length low) before → BuildAnswer R before r after
       → Demand2 R r after
   demand-2 {r = r} room answer =
@@ -57,7 +66,5 @@ module _ (R : Rows) (A : Accepted R) where
         routing-entries = λ i d node destination. the-entry W (built .routes .bytes i d node destination);
         forwarding-entries = λ h d interface destination. the-entry W (built .forwards .bytes h d interface destination);
         backwarding-entries = λ h d interface destination. the-entry W (built .backwards .bytes h d interface destination);
-        key-links = λ h d keys interface destination a.
-            (let accepts : keys .number ≡ accepted = a .number ∙ ap (λ (v : Verdict). v .number) (numbers-pass interface destination) in
-            (accepts, a .keys accepts));
+        key-links = λ h d keys interface destination answers. key-links-found interface destination answers;
       }

@@ -1,35 +1,40 @@
--- Keeping the dearest detour. Trying one link more leaves what is kept unless the link is key; then the dearer of the two is kept, and
--- it is as dear as every detour so far, since costs are compared as pairs, first part first, which is a total order. A link that is not
--- on the node's own best path is not key, so that what is kept stays without any trying.
+-- Keeping the key links and the dearest detour. Trying one link more leaves what is kept unless the link is key; then it joins the key
+-- links, and the dearer of the two detours is kept, which is as dear as every detour so far, since costs are compared as pairs, first part
+-- first, which is a total order. A link that is not on the node's own best path is not key, so that what is kept stays without any trying.
+-- Neither is any link at the destination itself, or where the node has no way on.
 use Prim.Native.Nat.{ℕ, suc, _≤_, _<_}
 use mathlib.Core.Bool.{Bool, true, false}
-use mathlib.Core.Path.{_≡_, refl, sym, ap, _∙_}
+use mathlib.Core.Path.{_≡_, refl, sym, _∙_}
 use mathlib.Core.Logic.{_⊎_, inl, inr, _≢_, _↔_}
 use mathlib.Core.List.{List, [], _∷_}
 use native.Mathlib.Decide.{ℕ-discrete, decLt}
 use native.Mathlib.Omega.{arith}
 use lib.ListN.{getD, replicate, getD-replicate}
-use Rattle.graph.specs.Network.{Network, WellFormed, link, reverse, head}
+use Rattle.graph.specs.Network.{Network, WellFormed, reverse, head}
 use Rattle.graph.specs.Path.{BestPath, All, But, weightSum}
 use Rattle.graph.specs.Set.{linkSet}
 use Rattle.graph.specs.Entries.{KeyLink}
-use Rattle.graph.proofs.Interfaces.{link-reverse, tail-reverse, head-reverse}
-use Rattle.graph.proofs.Chain.{Best, best-after, first-present, first-tail}
+use Rattle.graph.proofs.Interfaces.{tail-reverse}
+use Rattle.graph.proofs.Chain.{Best, best-after}
 use Rattle.graph.proofs.Agreement.{path-best, best-path}
 use Rattle.net.specs.Limits.{mostNodes}
 use Rattle.net.specs.Choice.{pick}
 use Rattle.net.specs.Rows.{Rows, Present, networkOf}
-use Rattle.net.specs.inner.LinkSet.{value}
-use Rattle.paths.specs.inner.Cost.{unknown, noCost, hereCost}
+use Rattle.net.specs.inner.LinkSet.{value, withLink}
+use Rattle.net.proofs.Rows.{present-row}
+use Rattle.paths.specs.inner.Cost.{unknown, hereCost, isKnown}
 use Rattle.paths.specs.inner.Column.{entryAt, Shows, BestColumn}
-use Rattle.paths.specs.inner.Square.{columnFor, cell}
 use Rattle.paths.specs.declared.cost.Cost.{Cost}
 use Rattle.paths.proofs.CostNumber.{Lower, before?}
-use Rattle.paths.proofs.ColumnEntry.{shown-best, shown-onward, weighs-something}
-use Rattle.tables.specs.inner.KeyTest.{crossesLink}
-use Rattle.tables.specs.inner.Detours.{dearerOf, noted, Dearest, no-key, dearest, noDetours, AllDetours}
-use Rattle.tables.proofs.Tests.{false-true}
+use Rattle.paths.proofs.ColumnEntry.{known-true, shown-best, shown-onward, weighs-something}
+use Rattle.tables.specs.declared.kept.Kept.{Kept}
+use Rattle.tables.specs.inner.KeyTest.{crossesLink, keyTest}
+use Rattle.tables.specs.inner.Detours.{dearerOf, noted, Dearest, no-key, dearest, Keeps, SquareKept}
+use Rattle.tables.specs.inner.Detours.{nothingKept, noneKept, keptFor, keptAt}
+use Rattle.tables.proofs.Tests.{false-true, both-true}
 use Rattle.tables.proofs.KeyTest.{key-test-by-columns, key-crossed}
+use Rattle.tables.proofs.KeptKeys.{back-enters, back-present}
+use Rattle.tables.proofs.KeyLoop.{keys-begin, keys-with, keys-without}
 
 -- the pair of a sum and a set is not above the cost
 abbrev pub Within : ℕ → ℕ → Cost → Type 0
@@ -112,27 +117,29 @@ module _ (N : Network) (W : WellFormed N) {i d h k : ℕ} where
               ])
         ]
 
-    -- a link more
-    dearest-more : {kept : Cost} (test : Bool) → (test ≡ true) ↔ KeyLink N d h k → head N h ≡ i → Dearest N i d h k kept
-        → Dearest N i d h (suc k) (pick test (dearerOf kept after) kept)
-    dearest-more true tells is D = passed-key is (tells .0 refl) D
-    dearest-more false tells is D = passed-free (λ key. false-true (tells .1 key)) D
-
 -- before any link is tried
-start-cell : (i d : ℕ) → i < mostNodes → d < mostNodes → cell noDetours i d ≡ hereCost
-unfolding noDetours columnFor entryAt
-start-cell i d hi hd =
-    rw (getD-replicate mostNodes d (replicate mostNodes hereCost) [] hd) (getD-replicate mostNodes i hereCost noCost hi)
+pub nothing-keeps : {N : Network} {i d : ℕ} {whole : Cost} → Keeps N i d 0 whole nothingKept
+unfolding nothingKept hereCost
+nothing-keeps =
+    record {
+      keys = λ away known. keys-begin;
+      detour = λ away known. no-key refl (λ l below key. omega arith);
+      none-here = λ e. refl;
+      none-apart = λ h. refl;
+    }
 
-pub detours-start : (N : Network) → N .nodes ≤ mostNodes → (all : List (List Cost)) → AllDetours N 0 all noDetours
-unfolding hereCost
-detours-start N few all d hd i hi away known =
-    no-key (ap (λ (c : Cost). c .sum) (start-cell i d (omega arith) (omega arith))) (λ l below key. omega arith)
+start-cell : (i d : ℕ) → i < mostNodes → d < mostNodes → keptAt (keptFor noneKept d) i ≡ nothingKept
+unfolding noneKept keptFor keptAt
+start-cell i d hi hd =
+    rw (getD-replicate mostNodes d (replicate mostNodes nothingKept) [] hd) (getD-replicate mostNodes i nothingKept nothingKept hi)
+
+pub kept-start : (N : Network) → N .nodes ≤ mostNodes → (all : List (List Cost)) → SquareKept N 0 all noneKept
+kept-start N few all d hd i hi = rw (start-cell i d (omega arith) (omega arith)) nothing-keeps
 
 -- what is kept of i, by the columns over all links and without link k, after that was tried
-abbrev pub noting : Rows → ℕ → List Cost → List Cost → ℕ → Cost → Cost
+abbrev pub noting : Rows → ℕ → List Cost → List Cost → ℕ → Kept → Kept
 noting R k all without i kept =
-    noted kept (entryAt all i) (entryAt without i) (entryAt without (head (networkOf R) (entryAt all i .first)))
+    noted kept k (entryAt all i) (entryAt without i) (entryAt without (head (networkOf R) (entryAt all i .first)))
     (entryAt without (getD (R .low) k 0)) (entryAt without (getD (R .high) k 0))
 
 module _ (R : Rows) (W : WellFormed (networkOf R)) {d k : ℕ} (present : Present R k) (all without : List Cost)
@@ -140,28 +147,65 @@ module _ (R : Rows) (W : WellFormed (networkOf R)) {d k : ℕ} (present : Presen
   abbrev N : Network
   N = networkOf R
 
-  module _ (i : ℕ) (node : i < R .nodes) (away : i ≢ d) (known : entryAt all i .sum < unknown) where
-    -- the first interface of i's best path, and the one by which the node after i would send back
+  module _ (i : ℕ) (node : i < R .nodes) where
+    -- the first interface of i's best path, by whose reverse the node after i would send back
     abbrev f : ℕ
     f = entryAt all i .first
 
-    leads : (p : List ℕ) × Best N All i (f ∷ p) d
-    leads = let (p, m) = shown-onward N W (whole .shows i node) away known in (p, m .best)
+    enters : i ≢ d → entryAt all i .sum < unknown → head N (reverse f) ≡ i
+    enters away known = back-enters N W (whole .shows i node) away known
 
-    enters : head N (reverse f) ≡ i
-    enters = head-reverse N f ∙ first-tail N (leads .1 .chain)
+    -- a link more, which is no key link
+    kept-free : (c : Kept) → (i ≢ d → entryAt all i .sum < unknown → KeyLink N d (reverse f) k → ⊥)
+        → Keeps N i d k (entryAt all i) c → Keeps N i d (suc k) (entryAt all i) c
+    kept-free c free K =
+        record {
+          keys = λ away known. keys-without (c .keys) (free away known) (K .keys away known);
+          detour = λ away known. passed-free N W (free away known) (K .detour away known);
+          none-here = K .none-here;
+          none-apart = K .none-apart;
+        }
 
-    -- one link more
-    pub noted-dearest : (c : Cost) → Dearest N i d (reverse f) k c → Dearest N i d (reverse f) (suc k) (noting R k all without i c)
-    unfolding noted
-    noted-dearest c D =
-        let up : N .Present (link (reverse f)) = rw (link-reverse f) (first-present N (leads .1 .chain)) in
-        let tells = key-test-by-columns R W all without present whole less (reverse f) up enters (tail-reverse N f) away in
-        dearest-more N W (less .shows i node) away _ tells enters D
+    -- one which i's best path does not cross
+    pub passed-keeps : (c : Kept) → crossesLink (entryAt all i) k ≡ false
+        → Keeps N i d k (entryAt all i) c → Keeps N i d (suc k) (entryAt all i) c
+    passed-keeps c uncrossed = kept-free c free
+      where
+        free : i ≢ d → entryAt all i .sum < unknown → KeyLink N d (reverse f) k → ⊥
+        free away known key =
+            let shown : Shows N All (head N (reverse f)) d (entryAt all i) = rw (enters away known) (whole .shows i node) in
+            false-true (sym uncrossed ∙ key-crossed N W shown key)
 
-    -- one link more, which i's best path does not cross
-    pub passed-dearest : (c : Cost) → crossesLink (entryAt all i) k ≡ false → Dearest N i d (reverse f) k c
-        → Dearest N i d (reverse f) (suc k) c
-    passed-dearest c uncrossed D =
-        let shown : Shows N All (head N (reverse f)) d (entryAt all i) = rw enters (whole .shows i node) in
-        passed-free N W (λ key. false-true (sym uncrossed ∙ key-crossed N W shown key)) D
+    -- one that is tried
+    module _ (away : i ≢ d) where
+      abbrev test : Bool
+      test =
+          keyTest (reverse f) (entryAt all i) (entryAt without i) (entryAt without (head N f))
+          (entryAt without (getD (R .low) k 0)) (entryAt without (getD (R .high) k 0))
+
+      tells : entryAt all i .sum < unknown → (test ≡ true) ↔ KeyLink N d (reverse f) k
+      tells known =
+          let up = back-present N W (whole .shows i node) away known in
+          key-test-by-columns R W all without present whole less (reverse f) up (enters away known) (tail-reverse N f) away
+
+      -- no link is key where i has no way on
+      routed : test ≡ true → entryAt all i .sum < unknown
+      unfolding keyTest
+      routed e = known-true (entryAt all i) .0 (both-true (isKnown (entryAt all i)) _ .0 e .0)
+
+      pub noted-keeps : (c : Kept) → Keeps N i d k (entryAt all i) c → Keeps N i d (suc k) (entryAt all i) (noting R k all without i c)
+      unfolding noted
+      noted-keeps c K = go test refl
+        where
+          go : (b : Bool) → test ≡ b → Keeps N i d (suc k) (entryAt all i)
+              (pick b (record { keys = withLink (c .keys) k; detour = dearerOf (c .detour) (entryAt without i) }) c)
+          go false e = kept-free c (λ apart known key. false-true (sym e ∙ tells known .1 key)) K
+          go true e =
+              let known = routed e in
+              let key = tells known .0 e in
+              record {
+                keys = λ apart routes. keys-with (c .keys) (present-row R k present) key (K .keys away known);
+                detour = λ apart routes. passed-key N W (less .shows i node) away (enters away known) key (K .detour away known);
+                none-here = λ here. absurd (away here);
+                none-apart = λ cut-off. absurd (omega arith);
+              }

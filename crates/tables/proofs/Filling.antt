@@ -54,6 +54,12 @@ module _ {n : ℕ} {Byte : ℕ → ℕ → ℕ → Type 0} where
               getD-take (rows * n) after (r * n + d) 0 place,
             ) (F .bytes r d below inside)
 
+  -- a second pass over the same rows decides their bytes
+  pub filled-again : {rows : ℕ} {A : ℕ → ℕ → ℕ → Type 0} {before between after : List ℕ} → Filled n rows A before between
+      → Filled n rows Byte between after → Filled n rows Byte before after
+  filled-again F G =
+      record { same-length = G .same-length ∙ F .same-length; bytes = G .bytes; beyond = G .beyond ∙ F .beyond }
+
   -- tables filled with bytes that are determined are equal
   pub filled-one : {rows : ℕ} {before x y : List ℕ}
       → ((row d a b : ℕ) → row < rows → d < n → Byte row d a → Byte row d b → a ≡ b)

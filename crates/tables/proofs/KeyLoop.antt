@@ -1,12 +1,10 @@
 -- The loop that tries each link: what it has found of the links below k, and that the test on the entries it reads, of the column over
 -- all links and of the column without link k, tells whether k is a key link. At the destination itself there are none.
-use Prim.Native.Nat.{ℕ, _+_, _≤_, _<_}
+use Prim.Native.Nat.{ℕ, suc, _<_}
 use mathlib.Core.Bool.{true}
 use mathlib.Core.Path.{_≡_, _∙_}
 use mathlib.Core.Logic.{_≢_, _↔_}
 use mathlib.Core.List.{List}
-use native.Mathlib.Numerals.{add-one}
-use native.Mathlib.Omega.{arith}
 use lib.ListN.{length, getD}
 use Rattle.graph.specs.Network.{Network, WellFormed, link}
 use Rattle.graph.specs.Path.{All}
@@ -25,31 +23,24 @@ use Rattle.paths.specs.inner.Column.{entryAt, BestColumn, Restarted}
 use Rattle.paths.specs.declared.cost.Cost.{Cost}
 use Rattle.paths.proofs.ColumnEntry.{column-but, restarted-from-all}
 use Rattle.tables.specs.inner.KeyTest.{keyTest}
+use Rattle.tables.specs.inner.Detours.{KeysBelow}
 use Rattle.tables.specs.inner.Given.{Asked}
 use Rattle.tables.proofs.Reading.{read-node}
 use Rattle.tables.proofs.KeyTest.{key-test-by-columns, key-not-at-destination}
 
--- the set of the key links below k
-pub record KeysBelow (R : Rows) (h d k : ℕ) (set : LinkSet) : Type 0 where
-  pub is : SetOf (length (R .low)) (λ l. (l < k) × KeyLink (networkOf R) d h l) (value set)
+-- the key links found among those below k: before any was tried, with link k, which is key or is not, and once all were tried
+module _ {N : Network} {d h : ℕ} where
+  pub keys-begin : KeysBelow N d h 0 noLinks
+  keys-begin = rw value-none set-start
 
-module _ {R : Rows} {h d : ℕ} where
-  pub keys-begin : KeysBelow R h d 0 noLinks
-  keys-begin = record { is = rw value-none set-start }
+  pub keys-with : {k : ℕ} (s : LinkSet) → k < N .links → KeyLink N d h k → KeysBelow N d h k s → KeysBelow N d h (suc k) (withLink s k)
+  keys-with {k} s number key found = rw (value-with s k) (set-taken number key found)
 
-  -- link k is a key link, or it is none
-  pub keys-with : {k : ℕ} {s : LinkSet} → k < length (R .low) → KeyLink (networkOf R) d h k → KeysBelow R h d k s
-      → KeysBelow R h d (k + 1) (withLink s k)
-  keys-with {k} {s} number key found = rw (add-one k) (record { is = rw (value-with s k) (set-taken number key (found .is)) })
+  pub keys-without : {k : ℕ} (s : LinkSet) → (KeyLink N d h k → ⊥) → KeysBelow N d h k s → KeysBelow N d h (suc k) s
+  keys-without s no-key found = set-passed no-key found
 
-  pub keys-without : {k : ℕ} {s : LinkSet} → (KeyLink (networkOf R) d h k → ⊥) → KeysBelow R h d k s → KeysBelow R h d (k + 1) s
-  keys-without {k} no-key found = rw (add-one k) (record { is = set-passed no-key (found .is) })
-
-  pub keys-done : {k : ℕ} {s : LinkSet} → KeysBelow R h d k s → k ≤ length (R .low) → length (R .low) ≤ k
-      → SetOf (length (R .low)) (KeyLink (networkOf R) d h) (value s)
-  keys-done {k} found below end =
-      let all : k ≡ length (R .low) = omega arith in
-      set-whole (rw all at (found .is))
+  pub keys-done : {k : ℕ} (s : LinkSet) → KeysBelow N d h k s → k ≡ N .links → SetOf (N .links) (KeyLink N d h) (value s)
+  keys-done s found all = set-whole (rw all at found)
 
 module _ {R : Rows} {h d : ℕ} (G : Asked R h d) where
   open Rows R using (nodes as n, low, high)

@@ -1,6 +1,7 @@
 pub mod Tests
 pub mod Reading
 pub mod KeyTest
+pub mod KeptKeys
 pub mod KeyLoop
 pub mod KeyVerdicts
 pub mod EntryRows
@@ -8,11 +9,15 @@ pub mod RowLookup
 pub mod Detours
 pub mod Forwarding
 pub mod Bytes
+pub mod Leaving
 pub mod Filling
 pub mod RowBytes
 pub mod Building
+pub mod LeavingNodes
+pub mod LeavingDestinations
 pub mod Noting
 pub mod Lengths
 pub mod BuildVerdicts
 pub mod Determined
 pub mod Demand2
+pub mod KeysAgree

@@ -1,5 +1,5 @@
--- Each row that the code fills has the right bytes: a routing row by the square over all links, the two backwarding rows of a link by the
--- square without it, a forwarding row by the costs to forward by. A row is made of its bytes, so this is Bytes, destination by
+-- Each row that the code fills has the right bytes: a routing row by the square over all links, the two rows of a link without that link
+-- by the square without it, a forwarding row by the costs to forward by. A row is made of its bytes, so this is Bytes, destination by
 -- destination.
 use Prim.Native.Nat.{ℕ, _+_, _*_, _<_}
 use mathlib.Core.Path.{_≡_, sym, _∙_}
@@ -14,10 +14,12 @@ use Rattle.net.proofs.Rows.{row-present}
 use Rattle.paths.specs.inner.Column.{entryAt}
 use Rattle.paths.specs.inner.Square.{cell, BestSquare}
 use Rattle.paths.specs.declared.cost.Cost.{Cost}
-use Rattle.tables.specs.Entry.{RoutingByte, ForwardingByte, BackwardingByte}
+use Rattle.tables.specs.Entry.{RoutingByte, ForwardingByte}
+use Rattle.tables.specs.declared.kept.Kept.{Kept}
+use Rattle.tables.specs.inner.Backward.{OwnByte}
 use Rattle.tables.specs.inner.EntryRow.{entryByte, entryRow}
-use Rattle.tables.specs.inner.Detours.{forwardCost, AllDetours}
-use Rattle.tables.proofs.Bytes.{routing-byte, backwarding-byte, forward-byte}
+use Rattle.tables.specs.inner.Detours.{forwardCost, keptFor, keptAt, SquareKept}
+use Rattle.tables.proofs.Bytes.{routing-byte, own-byte, forward-byte}
 use Rattle.tables.proofs.Filling.{entry-row-at}
 
 module _ (R : Rows) (A : Accepted R) (i : ℕ) (costs : List Cost) where
@@ -39,24 +41,24 @@ module _ (R : Rows) (A : Accepted R) (i : ℕ) (costs : List Cost) where
   -- the rows of link k, of the node at one of its ends
   module _ (without : List (List Cost)) {k : ℕ} (present : k < length low) (less : BestSquare (networkOf R) (But k) without)
       (are : (d : ℕ) → d < n → entryAt costs d ≡ cell without i d) where
-    backwarding-row : (h : ℕ) → link h ≡ k → tail (networkOf R) h ≡ i
-        → (d : ℕ) → d < n → BackwardingByte (networkOf R) h d (getD (entryRow n low high i 0 costs) d 0)
-    backwarding-row h is leaves =
-        row-bytes (BackwardingByte (networkOf R) h) (cell without i) are
-        (λ d destination. backwarding-byte R A without h (rw is (row-present R k present)) (rw is less) leaves destination)
+    own-row : (h : ℕ) → link h ≡ k → tail (networkOf R) h ≡ i
+        → (d : ℕ) → d < n → OwnByte (networkOf R) h d (getD (entryRow n low high i 0 costs) d 0)
+    own-row h is leaves =
+        row-bytes (OwnByte (networkOf R) h) (cell without i) are
+        (λ d destination. own-byte R A without h (rw is (row-present R k present)) (rw is less) leaves destination)
 
-    pub backwarding-row-from-low : i ≡ getD low k 0
-        → (d : ℕ) → d < n → BackwardingByte (networkOf R) (2 * k) d (getD (entryRow n low high i 0 costs) d 0)
-    backwarding-row-from-low is = backwarding-row (2 * k) (link-from-low k) (tail-from-low k (networkOf R) ∙ sym is)
+    pub own-row-from-low : i ≡ getD low k 0
+        → (d : ℕ) → d < n → OwnByte (networkOf R) (2 * k) d (getD (entryRow n low high i 0 costs) d 0)
+    own-row-from-low is = own-row (2 * k) (link-from-low k) (tail-from-low k (networkOf R) ∙ sym is)
 
-    pub backwarding-row-from-high : i ≡ getD high k 0
-        → (d : ℕ) → d < n → BackwardingByte (networkOf R) (2 * k + 1) d (getD (entryRow n low high i 0 costs) d 0)
-    backwarding-row-from-high is = backwarding-row (2 * k + 1) (link-from-high k) (tail-from-high k (networkOf R) ∙ sym is)
+    pub own-row-from-high : i ≡ getD high k 0
+        → (d : ℕ) → d < n → OwnByte (networkOf R) (2 * k + 1) d (getD (entryRow n low high i 0 costs) d 0)
+    own-row-from-high is = own-row (2 * k + 1) (link-from-high k) (tail-from-high k (networkOf R) ∙ sym is)
 
-  pub forwarding-row : (all kept : List (List Cost)) → BestSquare (networkOf R) All all
-      → AllDetours (networkOf R) (length low) all kept → (h : ℕ) → Present R (link h) → head (networkOf R) h ≡ i
-      → ((d : ℕ) → d < n → entryAt costs d ≡ forwardCost h (cell all i d) (cell kept i d))
+  pub forwarding-row : (all : List (List Cost)) (kept : List (List Kept)) → BestSquare (networkOf R) All all
+      → SquareKept (networkOf R) (length low) all kept → (h : ℕ) → Present R (link h) → head (networkOf R) h ≡ i
+      → ((d : ℕ) → d < n → entryAt costs d ≡ forwardCost h (cell all i d) (keptAt (keptFor kept d) i))
       → (d : ℕ) → d < n → ForwardingByte (networkOf R) h d (getD (entryRow n low high i 0 costs) d 0)
-  forwarding-row all kept whole detours h up is are =
-      row-bytes (ForwardingByte (networkOf R) h) (λ d. forwardCost h (cell all i d) (cell kept i d)) are
-      (λ d destination. forward-byte R A all kept whole detours h up is destination)
+  forwarding-row all kept whole keeps h up is are =
+      row-bytes (ForwardingByte (networkOf R) h) (λ d. forwardCost h (cell all i d) (keptAt (keptFor kept d) i)) are
+      (λ d destination. forward-byte R A all kept whole keeps h up is destination)

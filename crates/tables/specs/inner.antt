@@ -3,4 +3,5 @@
 pub mod KeyTest
 pub mod EntryRow
 pub mod Detours
+pub mod Backward
 pub mod Given

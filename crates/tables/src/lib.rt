@@ -1,7 +1,9 @@
 // Key links, the builder of the three tables, and the look-up of an interface's row.
+mod backward;
 mod build;
 mod entry;
 pub mod inner;
+mod kept;
 mod key;
 mod lent;
 mod row;

@@ -1,11 +1,13 @@
 -- `build_tables` refuses as `build_verdict` does, and then changes nothing. Else the network is accepted and the tables are long enough,
--- so that each table is filled as its own function promises.
+-- so that each table is filled as its own functions promise: the backwarding table first as if no interface had key links, then without
+-- them.
 use mathlib.Core.Path.{refl}
 use borrow.Author.Needs.{needs}
 use lib.ListN.{length}
 use Rattle.net.specs.Rows.{Rows}
 use Rattle.net.specs.Check.{Accepted}
 use Rattle.tables.specs.Lent.{LentTables, LongEnough}
+use Rattle.tables.proofs.Filling.{filled-again}
 use Rattle.tables.proofs.BuildVerdicts.{build-accepted, build-room}
 use Rattle.tables.proofs.build.build_tables.Statement.{statement}
 use Rattle.tables.proofs.build.build_tables.Tie as tie
@@ -57,20 +59,38 @@ fill-routing-requires c κs =
     let passed = squared .before in
     record { network = network passed; room = room passed .for-routing; square = squared .square-of .ensures }
 
-fill-backwarding-requires : tie.Need-fill-backwarding-requires
-fill-backwarding-requires c κs =
+fill-without-own-requires : tie.Need-fill-without-own-requires
+fill-without-own-requires c κs =
     let squared = c .before .before .before .before .before in
     let passed = squared .before in
     record { network = network passed; room = room passed .for-backwarding; square = squared .square-of .ensures }
 
+leave-out-keys-requires : tie.Need-leave-out-keys-requires
+leave-out-keys-requires c κs =
+    let filled = c .before .before .before in
+    let squared = filled .before .before .before .before .before .before in
+    let passed = squared .before in
+    let own = filled .fill-without-own .ensures in
+    record {
+      given = record {
+        filling = record {
+          network = network passed;
+          room = rw (own .0 .same-length) (room passed .for-backwarding);
+          square = squared .square-of .ensures;
+        };
+        keeps = own .1;
+      };
+      own = own .0 .bytes;
+    }
+
 fill-forwarding-requires : tie.Need-fill-forwarding-requires
 fill-forwarding-requires c κs =
-    let backwarded = c .before .before .before in
-    let squared = backwarded .before .before .before .before .before .before in
+    let filled = c .before .before .before .before .before .before .before in
+    let squared = filled .before .before .before .before .before .before in
     let passed = squared .before in
     record {
       filling = record { network = network passed; room = room passed .for-forwarding; square = squared .square-of .ensures };
-      detours = backwarded .fill-backwarding .ensures .1;
+      keeps = filled .fill-without-own .ensures .1;
     }
 
 same-length-4 : tie.Need-same-length-4
@@ -85,8 +105,9 @@ same-length-6 c = search needs
 returns-2 : tie.Need-returns-2
 returns-2 c =
     let forwarded = c .before .before in
-    let backwarded = forwarded .before .before .before .before in
-    let routed = backwarded .before .before .before .before in
+    let left-out = forwarded .before .before .before .before in
+    let filled = left-out .before .before .before .before in
+    let routed = filled .before .before .before .before in
     let passed = routed .before .before .before in
     record {
       verdict = passed .before .before .build-verdict .ensures;
@@ -94,7 +115,7 @@ returns-2 c =
       built = λ free. record {
         routes = routed .fill-routing .ensures;
         forwards = forwarded .fill-forwarding .ensures;
-        backwards = backwarded .fill-backwarding .ensures .0;
+        backwards = filled-again (filled .fill-without-own .ensures .0) (left-out .leave-out-keys .ensures);
       };
     }
 
@@ -109,7 +130,8 @@ build-tables-spec =
     returns
     square-of-requires
     fill-routing-requires
-    fill-backwarding-requires
+    fill-without-own-requires
+    leave-out-keys-requires
     fill-forwarding-requires
     same-length-4
     same-length-5

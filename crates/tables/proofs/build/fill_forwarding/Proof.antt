@@ -1,7 +1,7 @@
 -- `fill_forwarding` fills a row a turn: with h rows filled, the next is the part of the table from h * n on, by the costs to forward by of
 -- the node that interface h enters.
 use Prim.Native.Nat.{_+_, _*_, _≤_, _<_, _-_}
-use mathlib.Core.Path.{_≡_, refl, sym, _∙_}
+use mathlib.Core.Path.{_≡_, refl, sym, ap₂, _∙_}
 use native.Mathlib.Omega.{arith}
 use lib.ListN.{length, length-take, length-drop}
 use Rattle.graph.specs.Network.{link, head}
@@ -11,6 +11,7 @@ use Rattle.net.proofs.Accepted.{well-formed}
 use Rattle.net.proofs.Rows.{interface-present, head-of}
 use Rattle.paths.specs.inner.Square.{columnFor}
 use Rattle.tables.specs.Entry.{Filled, ForwardingByte}
+use Rattle.tables.specs.inner.Detours.{forwardCost, keptFor}
 use Rattle.tables.proofs.Filling.{filled-start}
 use Rattle.tables.proofs.RowBytes.{forwarding-row}
 use Rattle.tables.proofs.Building.{row-room, filled-row}
@@ -57,8 +58,8 @@ node c =
 by-node-requires : tie.Need-by-node-requires Inv-loop μ-loop
 by-node-requires c κs = c .before .before .before .before .pre .filling .network .few-nodes
 
-by-node-requires-2 : tie.Need-by-node-requires-2 Inv-loop μ-loop
-by-node-requires-2 c κs = c .before .before .before .before .before .pre .filling .network .few-nodes
+kept-by-node-requires : tie.Need-kept-by-node-requires Inv-loop μ-loop
+kept-by-node-requires c κs = c .before .before .before .before .before .pre .filling .network .few-nodes
 
 mul-interfaces : tie.Need-mul-interfaces Inv-loop μ-loop
 mul-interfaces c = omega arith
@@ -81,11 +82,11 @@ mul-own c = let entered = node c in omega arith
 array-copy-out-own : tie.Need-array-copy-out-own Inv-loop μ-loop
 array-copy-out-own c = let entered = node c in omega arith
 
-mul-detours : tie.Need-mul-detours Inv-loop μ-loop
-mul-detours c = let entered = node (c .before) in omega arith
+mul-found : tie.Need-mul-found Inv-loop μ-loop
+mul-found c = let entered = node (c .before) in omega arith
 
-array-copy-out-detours : tie.Need-array-copy-out-detours Inv-loop μ-loop
-array-copy-out-detours c = let entered = node (c .before) in omega arith
+array-copy-out-found : tie.Need-array-copy-out-found Inv-loop μ-loop
+array-copy-out-found c = let entered = node (c .before) in omega arith
 
 forward-costs-requires : tie.Need-forward-costs-requires Inv-loop μ-loop
 forward-costs-requires c κs = omega arith
@@ -111,7 +112,7 @@ loop-less : tie.Need-loop-less Inv-loop μ-loop
 loop-less c = omega arith
 
 loop-again : tie.Need-loop-again Inv-loop μ-loop
-unfolding columnFor
+unfolding columnFor keptFor
 loop-again c =
     let costs = c .before .before .before .before in
     let entered = costs .before .before .before in
@@ -120,18 +121,17 @@ loop-again c =
     let at = in-loop .before .loop in
     let given = start in-loop in
     let filling = given .pre .filling in
-    let detours = in-loop .before .before in
-    let own = detours .before in (
+    let turned = in-loop .before .before in
+    let own = turned .before in (
       at .inv .0,
       omega arith,
       filled-row (at .inv .2) refl (room in-loop) (given .args .low .now) (given .args .high .now) _ (costs .forward-costs .result)
           (forwarding-row (rows given) (filling .network) _ (costs .forward-costs .result) (given .args .all) (given .args .kept)
-          (filling .square) (given .pre .detours) (at .h) (present in-loop) (enters entered)
-          (λ d destination. cc (
-            costs .forward-costs .ensures d destination,
-            own .by-node .ensures i d (node entered) destination,
-            detours .by-node2 .ensures i d (node entered) destination,
-          )))
+          (filling .square) (given .pre .keeps) (at .h) (present in-loop) (enters entered)
+          (λ d destination.
+          costs .forward-costs .ensures d destination
+          ∙ ap₂ (forwardCost (at .h)) (own .by-node .ensures i d (node entered) destination)
+          (turned .kept-by-node .ensures i d (node entered) destination)))
           (c .before .before .fill-row .ensures),
     )
 
@@ -151,7 +151,7 @@ fill-forwarding-spec =
     Inv-loop
     μ-loop
     by-node-requires
-    by-node-requires-2
+    kept-by-node-requires
     mul-interfaces
     loop-holds
     head-of-requires
@@ -159,8 +159,8 @@ fill-forwarding-spec =
     add-to
     mul-own
     array-copy-out-own
-    mul-detours
-    array-copy-out-detours
+    mul-found
+    array-copy-out-found
     forward-costs-requires
     sub-fill-row
     part-fill-row-start

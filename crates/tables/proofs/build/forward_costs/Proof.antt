@@ -8,7 +8,7 @@ use lib.Seq.{getD-set-same, getD-set-other}
 use Rattle.net.specs.Limits.{mostNodes}
 use Rattle.paths.specs.inner.Cost.{noCost}
 use Rattle.paths.specs.inner.Column.{entryAt}
-use Rattle.tables.specs.inner.Detours.{forwardCost}
+use Rattle.tables.specs.inner.Detours.{forwardCost, keptAt}
 use Rattle.tables.proofs.Reading.{forward-read}
 use Rattle.tables.proofs.build.forward_costs.Statement.{statement}
 use Rattle.tables.proofs.build.forward_costs.Tie as tie
@@ -16,7 +16,7 @@ use Rattle.tables.proofs.build.forward_costs.Tie as tie
 abbrev Inv-loop : tie.InvT-loop
 Inv-loop h n all kept costs₀ d₀ costs d =
     (d ≤ n) × (length costs ≡ mostNodes)
-    × ((e : ℕ) → e < d → entryAt costs e ≡ forwardCost (h .0) (entryAt all e) (entryAt kept e))
+    × ((e : ℕ) → e < d → entryAt costs e ≡ forwardCost (h .0) (entryAt all e) (keptAt kept e))
 
 abbrev μ-loop : tie.MeasureT-loop
 μ-loop h n all kept costs₀ d₀ costs d = n - d
@@ -62,7 +62,7 @@ loop-again c =
           (λ e h. getD-set-other (at .costs) (at .d) e _ noCost (λ q. omega arith) ∙ at .inv .2 e h)
           (getD-set-same (at .costs) (at .d) _ noCost (omega arith)
           ∙ forward-read _ (at .d) (start .args .t3) (start .args .t4) (omega (arith, start .good .1 .1 .0 .1 .0 .1))
-          (omega (arith, start .good .1 .1 .1 .0 .1 .0 .1)) _ (c .forward-cost .ensures)),
+          (omega (arith, start .good .1 .1 .1 .0 .1 .0 .1)) _ _ (c .forward-cost .ensures)),
     )
 
 returns : tie.Need-returns Inv-loop μ-loop

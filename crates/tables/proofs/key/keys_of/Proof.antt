@@ -4,15 +4,17 @@ use Prim.Native.Nat.{ℕ, _-_, _≤_, _<_}
 use mathlib.Core.Path.{_≡_, refl, sym, ap, _∙_}
 use mathlib.Core.Logic.{⊎-elim}
 use mathlib.Core.List.{List}
+use native.Mathlib.Numerals.{add-one}
 use native.Mathlib.Omega.{arith}
 use borrow.Author.Needs.{needs}
 use lib.ListN.{length, getD}
 use Rattle.net.specs.Limits.{mostNodes}
-use Rattle.net.specs.Rows.{Rows}
+use Rattle.net.specs.Rows.{Rows, networkOf}
 use Rattle.net.specs.Check.{Joins}
 use Rattle.net.specs.inner.LinkSet.{withLink}
+use Rattle.tables.specs.inner.Detours.{KeysBelow}
 use Rattle.tables.proofs.Tests.{false-true}
-use Rattle.tables.proofs.KeyLoop.{KeysBelow, head-below, tail-below, no-keys-here}
+use Rattle.tables.proofs.KeyLoop.{head-below, tail-below, no-keys-here}
 use Rattle.tables.proofs.KeyLoop.{keys-begin, keys-with, keys-without, keys-done, key-read}
 use Rattle.tables.proofs.key.keys_of.Statement.{statement}
 use Rattle.tables.proofs.key.keys_of.Tie as tie
@@ -22,7 +24,7 @@ given n low high weight = record { nodes = n; low = low; high = high; weight = w
 
 abbrev Inv-loop : tie.InvT-loop
 Inv-loop n low high weight h i j d all whole links keys₀ k₀ keys k =
-    (links ≡ length low) × (k ≤ links) × KeysBelow (given n low high weight) (h .0) d k keys
+    (links ≡ length low) × (k ≤ links) × KeysBelow (networkOf (given n low high weight)) d (h .0) k keys
 
 abbrev μ-loop : tie.MeasureT-loop
 μ-loop n low high weight h i j d all whole links keys₀ k₀ keys k = links - k
@@ -177,14 +179,15 @@ loop-again c =
     let test = sym (c .before .is-key .ensures) in (
       at .inv .0,
       omega (arith, at .inv .0),
-      ⊎-elim
-          (λ w. rw (w .2 ∙ w .1 .ensures) (keys-with (number in-loop) (key .0 (test ∙ w .0 .taken)) (at .inv .2)))
-          (λ w. rw (w .1) (keys-without (λ found. false-true (sym (test ∙ w .0 .left) ∙ key .1 found)) (at .inv .2)))
-          (c .if2 .came),
+      rw (add-one (at .k))
+          (⊎-elim
+          (λ w. rw (w .2 ∙ w .1 .ensures) (keys-with (at .keys) (number in-loop) (key .0 (test ∙ w .0 .taken)) (at .inv .2)))
+          (λ w. rw (w .1) (keys-without (at .keys) (λ found. false-true (sym (test ∙ w .0 .left) ∙ key .1 found)) (at .inv .2)))
+          (c .if2 .came)),
     )
 
 returns-2 : tie.Need-returns-2 Inv-loop μ-loop
-returns-2 c = keys-done (c .before .loop .inv .2) (omega arith) (omega arith)
+returns-2 c = let at = c .before .loop in keys-done (at .keys) (at .inv .2) (omega arith)
 
 pub keys-of-spec : {M : Type 1} → statement M
 keys-of-spec =

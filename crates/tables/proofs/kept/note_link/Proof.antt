@@ -1,25 +1,25 @@
--- `note_link` goes over the destinations: the columns passed hold the detours with link k tried, the others are as they were.
+-- `note_link` goes over the destinations: the columns passed hold what is kept with link k tried, the others are as they were.
 use Prim.Native.Nat.{ℕ, suc, _≤_, _<_, _-_}
 use mathlib.Core.Path.{_≡_, refl, _∙_}
-use mathlib.Core.List.{List}
+use mathlib.Core.List.{List, []}
 use native.Mathlib.Omega.{arith}
 use borrow.Author.Count.{below-more}
 use lib.ListN.{length, length-set}
+use lib.Seq.{getD-set-same, getD-set-other}
 use Rattle.net.specs.Limits.{mostNodes}
 use Rattle.net.specs.Rows.{Rows, networkOf}
 use Rattle.paths.specs.inner.Square.{columnFor}
-use Rattle.paths.proofs.Steps.{column-replaced, column-kept}
-use Rattle.tables.specs.inner.Detours.{Detours}
-use Rattle.tables.proofs.build.note_link.Statement.{statement}
-use Rattle.tables.proofs.build.note_link.Tie as tie
+use Rattle.tables.specs.inner.Detours.{keptFor, AllKept}
+use Rattle.tables.proofs.kept.note_link.Statement.{statement}
+use Rattle.tables.proofs.kept.note_link.Tie as tie
 
 abbrev rows : ℕ → List ℕ → List ℕ → List ℕ → Rows
 rows n low high weight = record { nodes = n; low = low; high = high; weight = weight }
 
 abbrev Inv-loop : tie.InvT-loop
 Inv-loop n low high weight k all without next₀ d₀ next d =
-    (length next ≡ mostNodes) × ((e : ℕ) → d ≤ e → columnFor next e ≡ columnFor next₀ e)
-    × ((e : ℕ) → e < d → Detours (networkOf (rows n low high weight)) e (suc k) (columnFor all e) (columnFor next e))
+    (length next ≡ mostNodes) × ((e : ℕ) → d ≤ e → keptFor next e ≡ keptFor next₀ e)
+    × ((e : ℕ) → e < d → AllKept (networkOf (rows n low high weight)) e (suc k) (columnFor all e) (keptFor next e))
 
 abbrev μ-loop : tie.MeasureT-loop
 μ-loop n low high weight k all without next₀ d₀ next d = n - d
@@ -46,7 +46,7 @@ array-copy-out-less : tie.Need-array-copy-out-less Inv-loop μ-loop
 array-copy-out-less c = omega arith
 
 note-column-requires : tie.Need-note-column-requires Inv-loop μ-loop
-unfolding columnFor
+unfolding columnFor keptFor
 note-column-requires c κs =
     let at = c .before .before .before .before .loop in
     let given = c .before .before .before .before .before .before .before .before .pre in
@@ -56,7 +56,7 @@ note-column-requires c κs =
       row = given .row;
       column = given .square (at .d) destination;
       column-without = given .square-without (at .d) destination;
-      detours = rw (at .inv .1 (at .d) (omega arith)) (given .detours (at .d) destination);
+      keeps = rw (at .inv .1 (at .d) (omega arith)) (given .keeps (at .d) destination);
     }
 
 mul-next : tie.Need-mul-next Inv-loop μ-loop
@@ -72,14 +72,14 @@ loop-less : tie.Need-loop-less Inv-loop μ-loop
 loop-less c = omega arith
 
 loop-again : tie.Need-loop-again Inv-loop μ-loop
-unfolding columnFor
+unfolding columnFor keptFor
 loop-again c =
     let at = c .before .before .before .before .before .loop in
     let column = c .note-column .result in (
       length-set (at .next) (at .d) column ∙ at .inv .0,
-      λ e h. column-kept (at .next) (at .d) column e (λ q. omega arith) ∙ at .inv .1 e (omega arith),
-      below-more _ _ (λ e h. rw (column-kept (at .next) (at .d) column e (λ q. omega arith)) (at .inv .2 e h))
-          (rw (column-replaced (at .next) (at .d) column (omega arith)) (c .note-column .ensures)),
+      λ e h. getD-set-other (at .next) (at .d) e column [] (λ q. omega arith) ∙ at .inv .1 e (omega arith),
+      below-more _ _ (λ e h. rw (getD-set-other (at .next) (at .d) e column [] (λ q. omega arith)) (at .inv .2 e h))
+          (rw (getD-set-same (at .next) (at .d) column [] (omega arith)) (c .note-column .ensures)),
     )
 
 returns : tie.Need-returns Inv-loop μ-loop

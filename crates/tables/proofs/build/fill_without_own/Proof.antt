@@ -1,5 +1,5 @@
--- `fill_backwarding` fills two rows a turn, those of the link's two interfaces, by the square without the link: with 2 * k rows filled, the
--- next two are the parts of the table from 2 * k * n on. Each turn tries one link more for the detours.
+-- `fill_without_own` fills two rows a turn, those of the link's two interfaces, by the square without the link: with 2 * k rows filled, the
+-- next two are the parts of the table from 2 * k * n on. Each turn tries one link more, and what it shows is kept.
 use Prim.Native.Nat.{ℕ, _+_, _*_, _≤_, _<_, _-_}
 use mathlib.Core.Path.{_≡_, refl, ap, _∙_}
 use mathlib.Core.List.{List}
@@ -13,22 +13,23 @@ use Rattle.net.specs.inner.LinkSet.{withLink}
 use Rattle.net.proofs.Accepted.{well-formed}
 use Rattle.paths.specs.inner.Square.{BestSquare}
 use Rattle.paths.proofs.ColumnEntry.{column-but}
-use Rattle.tables.specs.Entry.{Filled, BackwardingByte}
-use Rattle.tables.specs.inner.Detours.{AllDetours}
-use Rattle.tables.proofs.Detours.{detours-start}
+use Rattle.tables.specs.Entry.{Filled}
+use Rattle.tables.specs.inner.Backward.{OwnByte}
+use Rattle.tables.specs.inner.Detours.{SquareKept}
+use Rattle.tables.proofs.Detours.{kept-start}
 use Rattle.tables.proofs.Filling.{filled-start}
-use Rattle.tables.proofs.RowBytes.{backwarding-row-from-low, backwarding-row-from-high}
+use Rattle.tables.proofs.RowBytes.{own-row-from-low, own-row-from-high}
 use Rattle.tables.proofs.Building.{next-row, row-room, filled-row}
-use Rattle.tables.proofs.build.fill_backwarding.Statement.{statement}
-use Rattle.tables.proofs.build.fill_backwarding.Tie as tie
+use Rattle.tables.proofs.build.fill_without_own.Statement.{statement}
+use Rattle.tables.proofs.build.fill_without_own.Tie as tie
 
 abbrev given : ℕ → List ℕ → List ℕ → List ℕ → Rows
 given n low high weight = record { nodes = n; low = low; high = high; weight = weight }
 
 abbrev Inv-loop : tie.InvT-loop
 Inv-loop table₀ n low high weight all links kept₀ k₀ table kept k =
-    (links ≡ length low) × (k ≤ links) × Filled n (2 * k) (BackwardingByte (networkOf (given n low high weight))) table₀ table
-    × AllDetours (networkOf (given n low high weight)) k all kept
+    (links ≡ length low) × (k ≤ links) × Filled n (2 * k) (OwnByte (networkOf (given n low high weight))) table₀ table
+    × SquareKept (networkOf (given n low high weight)) k all kept
 
 abbrev μ-loop : tie.MeasureT-loop
 μ-loop table₀ n low high weight all links kept₀ k₀ table kept k = links - k
@@ -71,13 +72,13 @@ without-best c =
     let only = c .before .with-link .ensures ∙ ap (λ s. withLink s (turn c .before .loop .k)) (c .before .before .empty .ensures) in
     λ d destination. column-but _ (well-formed _ (pre .network)) (rw only at (c .square-without .ensures (pre .square) d destination))
 
-no-detours-requires : tie.Need-no-detours-requires Inv-loop μ-loop
-no-detours-requires c κs = tt
+none-kept-requires : tie.Need-none-kept-requires Inv-loop μ-loop
+none-kept-requires c κs = tt
 
 loop-holds : tie.Need-loop-holds Inv-loop μ-loop
 loop-holds c =
     let start = c .before .before .before .before .before in
-    (refl, omega arith, filled-start _, rw (c .no-detours .ensures) (detours-start _ (start .pre .network .few-nodes) (start .args .all)))
+    (refl, omega arith, filled-start _, rw (c .none-kept .ensures) (kept-start _ (start .pre .network .few-nodes) (start .args .all)))
 
 end-at-requires : tie.Need-end-at-requires Inv-loop μ-loop
 end-at-requires c κs = tt
@@ -158,7 +159,7 @@ note-link-requires c κs =
       row = number in-loop;
       square = pre .square;
       square-without = without-best squared;
-      detours = in-loop .before .loop .inv .3;
+      keeps = in-loop .before .loop .inv .3;
     }
 
 add-k : tie.Need-add-k Inv-loop μ-loop
@@ -187,12 +188,12 @@ loop-again c =
     let end = room in-loop in
     let first =
     filled-row (at .inv .2) refl (omega arith) (args .low .now) (args .high .now) _ (from-low .costs-of .result)
-    (backwarding-row-from-low _ network _ (from-low .costs-of .result) (squared .square-without .result) (number in-loop)
+    (own-row-from-low _ network _ (from-low .costs-of .result) (squared .square-without .result) (number in-loop)
     (without-best squared) (from-low .costs-of .ensures) (low-end .end-at .ensures))
     (first-row .fill-row .ensures) in
     let second =
     filled-row first (next-row (2 * at .k) (args .n)) end (args .low .now) (args .high .now) _ (from-high .costs-of2 .result)
-    (backwarding-row-from-high _ network _ (from-high .costs-of2 .result) (squared .square-without .result) (number in-loop)
+    (own-row-from-high _ network _ (from-high .costs-of2 .result) (squared .square-without .result) (number in-loop)
     (without-best squared) (from-high .costs-of2 .ensures) (high-end .end-at2 .ensures))
     (second-row .fill-row2 .ensures) in
     let rows : 2 * (at .k + 1) ≡ 2 * at .k + 1 + 1 = omega arith in
@@ -206,13 +207,13 @@ returns c =
     let done : c .before .loop .k ≡ length (c .before .before .before .before .before .before .before .args .low .now) = omega arith in
     (rw done at (c .before .loop .inv .2), rw done at (c .before .loop .inv .3))
 
-pub fill-backwarding-spec : {M : Type 1} → statement M
-fill-backwarding-spec =
+pub fill-without-own-spec : {M : Type 1} → statement M
+fill-without-own-spec =
     tie.close
     (tie.spec
     Inv-loop
     μ-loop
-    no-detours-requires
+    none-kept-requires
     loop-holds
     end-at-requires
     end-at-requires-2

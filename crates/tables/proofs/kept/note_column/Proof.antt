@@ -1,5 +1,5 @@
--- `note_column` goes over the nodes: the places passed hold the detours with link k tried, the others what was kept. The ends of the link
--- are nodes, and so is the node after one whose best path crosses the link, so they are places of the columns.
+-- `note_column` goes over the nodes: the places passed hold what is kept with link k tried, the others what was kept before. The ends of
+-- the link are nodes, and so is the node after one whose best path crosses the link, so they are places of the columns.
 use Prim.Native.Nat.{_≤_, _<_, _-_}
 use mathlib.Core.Path.{_≡_, sym, _∙_}
 use mathlib.Core.Logic.{⊎-elim}
@@ -10,8 +10,8 @@ use Rattle.net.specs.Limits.{mostNodes}
 use Rattle.net.specs.Rows.{networkOf}
 use Rattle.net.specs.Check.{Joins}
 use Rattle.tables.proofs.Noting.{NotedBelow, noted-start, noted-uncrossed, noted-crossed, noted-done, ahead-node}
-use Rattle.tables.proofs.build.note_column.Statement.{statement}
-use Rattle.tables.proofs.build.note_column.Tie as tie
+use Rattle.tables.proofs.kept.note_column.Statement.{statement}
+use Rattle.tables.proofs.kept.note_column.Tie as tie
 
 abbrev Inv-loop : tie.InvT-loop
 Inv-loop n low high weight d k all without one other next₀ i₀ next i =
@@ -37,15 +37,22 @@ without-long c = c .good .1 .1 .0 .1 .0 .1
 abbrev start : tie.In-loop Inv-loop μ-loop → tie.Start Inv-loop μ-loop
 start c = c .before .before .before .before .before .before .before .before .before
 
+-- the turn at which the node after one is read
+abbrev turn : tie.After-head-of Inv-loop μ-loop → tie.In-loop Inv-loop μ-loop
+turn c = c .before .before .before .before .before
+
+-- the node is a place of the columns
+node-place : (c : tie.In-loop Inv-loop μ-loop) → c .before .loop .i < mostNodes
+node-place c = omega (arith, c .loop-test .taken, start c .pre .network .few-nodes)
+
 -- where the node's best path crosses the link, the node after it is a place of the columns
 ahead-place : (c : tie.After-head-of Inv-loop μ-loop) → c .head-of .result .0 < mostNodes
 ahead-place c =
     let crossed = c .before .before in
-    let tested = crossed .before in
-    let turn = tested .before .before in
-    let given = start turn in
-    let crosses = sym (tested .crosses-link .ensures) ∙ crossed .if1 .taken in
-    let node = ahead-node (given .pre) (all-long given) (turn .before .loop .i) (turn .loop-test .taken) _ crosses in
+    let in-loop = turn c in
+    let given = start in-loop in
+    let crosses = sym (crossed .before .crosses-link .ensures) ∙ crossed .if1 .taken in
+    let node = ahead-node (given .pre) (all-long given) (in-loop .before .loop .i) (in-loop .loop-test .taken) _ crosses in
     omega (arith, c .head-of .ensures, node, given .pre .network .few-nodes)
 
 end-at-requires : tie.Need-end-at-requires Inv-loop μ-loop
@@ -78,38 +85,40 @@ array-copy-out-whole c = omega arith
 crosses-link-requires : tie.Need-crosses-link-requires Inv-loop μ-loop
 crosses-link-requires c κs = tt
 
-cast-noted-cost : tie.Need-cast-noted-cost Inv-loop μ-loop
-cast-noted-cost c = search needs
+cast-noted : tie.Need-cast-noted Inv-loop μ-loop
+cast-noted c = search needs
 
 head-of-requires : tie.Need-head-of-requires Inv-loop μ-loop
 head-of-requires c κs = tt
 
-mul-noted-cost : tie.Need-mul-noted-cost Inv-loop μ-loop
-mul-noted-cost c = omega arith
+mul-noted : tie.Need-mul-noted Inv-loop μ-loop
+mul-noted c = omega arith
 
-array-copy-out-noted-cost : tie.Need-array-copy-out-noted-cost Inv-loop μ-loop
-array-copy-out-noted-cost c = omega arith
+array-copy-out-noted : tie.Need-array-copy-out-noted Inv-loop μ-loop
+array-copy-out-noted c = omega arith
 
-mul-noted-cost-2 : tie.Need-mul-noted-cost-2 Inv-loop μ-loop
-mul-noted-cost-2 c = omega arith
+mul-noted-2 : tie.Need-mul-noted-2 Inv-loop μ-loop
+mul-noted-2 c = omega arith
 
-array-copy-out-noted-cost-2 : tie.Need-array-copy-out-noted-cost-2 Inv-loop μ-loop
-array-copy-out-noted-cost-2 c = omega arith
+array-copy-out-noted-2 : tie.Need-array-copy-out-noted-2 Inv-loop μ-loop
+array-copy-out-noted-2 c = omega arith
 
-mul-noted-cost-3 : tie.Need-mul-noted-cost-3 Inv-loop μ-loop
-mul-noted-cost-3 c = omega (arith, ahead-place (c .before .before))
+mul-noted-3 : tie.Need-mul-noted-3 Inv-loop μ-loop
+mul-noted-3 c = omega (arith, ahead-place (c .before .before))
 
-array-copy-out-noted-cost-3 : tie.Need-array-copy-out-noted-cost-3 Inv-loop μ-loop
-array-copy-out-noted-cost-3 c = ahead-place (c .before .before)
+array-copy-out-noted-3 : tie.Need-array-copy-out-noted-3 Inv-loop μ-loop
+array-copy-out-noted-3 c = ahead-place (c .before .before)
 
-noted-cost-requires : tie.Need-noted-cost-requires Inv-loop μ-loop
-noted-cost-requires c κs = tt
+noted-requires : tie.Need-noted-requires Inv-loop μ-loop
+noted-requires c κs =
+    let given = start (turn (c .before .before .before)) .pre in
+    omega (arith, given .row, given .network .few-links)
 
 mul-next : tie.Need-mul-next Inv-loop μ-loop
-mul-next c = omega arith
+mul-next c = omega (arith, node-place (turn (c .before .before .before .before)))
 
 array-set-from-next : tie.Need-array-set-from-next Inv-loop μ-loop
-array-set-from-next c = omega arith
+array-set-from-next c = node-place (turn (c .before .before .before .before))
 
 add-i : tie.Need-add-i Inv-loop μ-loop
 add-i c = omega arith
@@ -119,17 +128,17 @@ loop-less c = omega arith
 
 loop-again : tie.Need-loop-again Inv-loop μ-loop
 loop-again c =
-    let turn = c .before .before .before in
-    let given = start turn in
-    let at = turn .before .loop in
-    let high-end = turn .before .before .before in
+    let in-loop = c .before .before .before in
+    let given = start in-loop in
+    let at = in-loop .before .loop in
+    let high-end = in-loop .before .before .before in
     let low-end = high-end .before .before in
-    let node = turn .loop-test .taken in
+    let node = in-loop .loop-test .taken in
     let test = sym (c .before .crosses-link .ensures) in (
       omega arith,
       ⊎-elim
           (λ w. rw (w .7)
-          (noted-crossed (given .pre) (all-long given) (at .i) node _ (test ∙ w .0 .taken) (at .inv .1) (without-long given)
+          (noted-crossed (given .pre) (all-long given) (at .i) node _ (test ∙ w .0 .taken) (at .inv .1) (without-long given) _
           (w .2 .ensures) (low-end .end-at .ensures) (high-end .end-at2 .ensures) (w .6 .ensures)))
           (λ w. rw (w .1) (noted-uncrossed (given .pre) (all-long given) (at .i) node _ (at .inv .1) (test ∙ w .0 .left)))
           (c .if1 .came),
@@ -154,15 +163,15 @@ note-column-spec =
     mul-whole
     array-copy-out-whole
     crosses-link-requires
-    cast-noted-cost
+    cast-noted
     head-of-requires
-    mul-noted-cost
-    array-copy-out-noted-cost
-    mul-noted-cost-2
-    array-copy-out-noted-cost-2
-    mul-noted-cost-3
-    array-copy-out-noted-cost-3
-    noted-cost-requires
+    mul-noted
+    array-copy-out-noted
+    mul-noted-2
+    array-copy-out-noted-2
+    mul-noted-3
+    array-copy-out-noted-3
+    noted-requires
     mul-next
     array-set-from-next
     add-i

@@ -2,8 +2,8 @@
 use mathlib.Core.Path.{sym, _∙_}
 use borrow.Author.Needs.{needs}
 use Rattle.tables.specs.inner.Detours.{dearerOf}
-use Rattle.tables.proofs.build.dearer.Statement.{statement}
-use Rattle.tables.proofs.build.dearer.Tie as tie
+use Rattle.tables.proofs.kept.dearer.Statement.{statement}
+use Rattle.tables.proofs.kept.dearer.Tie as tie
 
 comes-before-requires : tie.Need-comes-before-requires
 comes-before-requires c κs = search needs
