@@ -148,7 +148,7 @@ fn bench_sheet(tally: &mut Tally) {
         row(&format!("forwarding 1 to 0, {way}"), a.forwarding(1, 0, 3) == 3);
         row(&format!("forwarding 2 to 0, {way}"), a.forwarding(2, 0, 3) == 1);
         row(&format!("backwarding 0 to 1, {way}"), a.backwarding(0, 1, 3) == 2);
-        row(&format!("backwarding 1 to 0, {way}"), a.backwarding(1, 0, 3) == 2);
+        row(&format!("backwarding 1 to 0, {way}"), a.backwarding(1, 0, 3) == 255);
         row(&format!("1-2 failed, {way}"), a.walk(0, 3, Some((1, 2)), 64) == (0, vec![0, 1, 0, 3]));
         let long = vec![0, 1, 2, 1, 0, 3];
         row(&format!("2-3 failed, {way}"), a.walk(0, 3, Some((2, 3)), 64) == (0, long.clone()));

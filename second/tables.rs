@@ -1,4 +1,5 @@
-//! Key links and the three tables, straight from document 01's formulas.
+//! Key links and the three tables, straight from the formulas of document 01
+//! and, for backwarding entries, of request L2 (000, section II).
 
 use crate::network::{index, Network, Refusal, MOST_NODES};
 use crate::paths::{by_tree, set_of, sum_of, Best};
@@ -83,17 +84,15 @@ pub fn build(best: &mut Best) -> Tables {
         tables.routing.extend((0..nodes).map(|d| entry(best, 0, i, d)));
     }
     for interface in 0..interfaces {
-        // Whoever gets a packet decides where it is forwarded to.
-        let (_, i) = graph.ends(interface);
+        // Whoever gets a packet decides where it is forwarded to, and whoever
+        // cannot send it decides where it is backwarded to.
+        let (sender, receiver) = graph.ends(interface);
         for (d, keys) in key_links(best, interface).into_iter().enumerate() {
-            tables.forwarding.push(entry(best, keys, i, d));
+            tables.forwarding.push(entry(best, keys, receiver, d));
+            // Where there are key links, a packet takes this interface only
+            // because of them; it is turned back because of the own link.
+            tables.backwarding.push(entry(best, keys | 1 << (interface / 2), sender, d));
         }
-    }
-    for interface in 0..interfaces {
-        // Whoever cannot send a packet decides where it is backwarded to.
-        let (i, _) = graph.ends(interface);
-        let own_link = 1 << (interface / 2);
-        tables.backwarding.extend((0..nodes).map(|d| entry(best, own_link, i, d)));
     }
     tables
 }
