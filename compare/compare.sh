@@ -30,6 +30,11 @@ records() {
         "$out/compare" "$out/$1.batch" "$out/$1.proved" "$out/$1.second" "$1"
 }
 
+# a batch of tables tells the backwarding rule from two others: its LABEL
+rules() {
+    "$out/second" rules < "$out/$1.batch"
+}
+
 # compares whole reports, on a batch and on the example plans
 reports() {
     "$out/generate" reports 1 1300 > "$out/reports.batch" &&
@@ -58,6 +63,7 @@ if compile second/second.rs second && compile compare/generate/main.rs generate 
     check stored nightplan report
     check records codec codec 2500 codec codec
     check records answers tables "$networks" answers tables
+    check rules answers
     check reports
     for name in full ring bare; do
         check example "$name"

@@ -35,24 +35,32 @@ fn split(batch: &[u8]) -> Option<(Record<'_>, &[u8])> {
     Some((Record { kind, left }, rest))
 }
 
-/// Answers a batch: what `line` makes of each record. A record must have been
-/// read to its end.
-pub fn answer(
+/// Goes through a batch: `keep` gets what `read` made of each record, once
+/// the record has been read to its end.
+pub fn each<T>(
     batch: &[u8],
-    output: &mut impl std::io::Write,
-    line: fn(&mut Record) -> Result<String, String>,
+    read: fn(&mut Record) -> Result<T, String>,
+    mut keep: impl FnMut(T) -> Result<(), String>,
 ) -> Result<(), String> {
     let mut left = batch;
     let mut count = 0;
     while !left.is_empty() {
         let (mut record, rest) = split(left).ok_or("the batch ends inside a record")?;
-        let line = line(&mut record).and_then(|line| record.end().map(|()| line));
-        let line = line.map_err(|fault| format!("record {count}: {fault}"))?;
-        writeln!(output, "{line}").map_err(|fault| fault.to_string())?;
+        let made = read(&mut record).and_then(|made| record.end().map(|()| made));
+        keep(made.map_err(|fault| format!("record {count}: {fault}"))?)?;
         left = rest;
         count += 1;
     }
     Ok(())
+}
+
+/// Answers a batch: what `line` makes of each record.
+pub fn answer(
+    batch: &[u8],
+    output: &mut impl std::io::Write,
+    line: fn(&mut Record) -> Result<String, String>,
+) -> Result<(), String> {
+    each(batch, line, |line| writeln!(output, "{line}").map_err(|fault| fault.to_string()))
 }
 
 impl<'a> Record<'a> {
@@ -74,6 +82,11 @@ impl<'a> Record<'a> {
     pub fn rest(&mut self, most: usize) -> Result<&'a [u8], String> {
         let length = within(self.left.len(), most)?;
         self.take(length)
+    }
+
+    /// Leaves out all that is left, whatever it is.
+    pub fn skip(&mut self) {
+        self.left = &[];
     }
 
     pub fn byte(&mut self) -> Result<u8, String> {

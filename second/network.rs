@@ -37,6 +37,7 @@ pub fn index(lent: u64, limit: usize, number: u8) -> Result<usize, Refusal> {
 
 /// The node count is as wide as a lent one can be, and the rows may differ in
 /// length: a network in memory is only a claim until `check`.
+#[derive(PartialEq, Eq, Hash)]
 pub struct Network {
     pub nodes: u64,
     pub lows: Vec<u8>,

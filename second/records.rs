@@ -2,10 +2,13 @@
 //! record. Records and answer lines: ../compare/FORMAT.md.
 
 use crate::batch::{self, hex, Record, MOST_TABLE, MOST_TRACE, UNTOUCHED};
-use crate::network::shown;
+use crate::network::{shown, Network};
 use crate::paths::{by_tree, Best};
 use crate::tables::{self, Lent, Told};
 use crate::walk::{self, Asked, Failure, Figures, Step};
+
+/// The kind of a record that has tables built.
+pub const TABLES: u8 = b'T';
 
 /// Larger networks' tables are told by their hash alone.
 const MOST_NODES_IN_FULL: u64 = 6;
@@ -47,12 +50,18 @@ fn failure(record: &mut Record) -> Result<Failure, String> {
     }
 }
 
-fn tables_line(record: &mut Record) -> Result<String, String> {
+/// A record of kind T: the network, and the rooms for its three tables.
+pub fn rooms(record: &mut Record) -> Result<(Network, [Vec<u8>; 3]), String> {
     let network = record.network()?;
     let mut rooms = [vec![], vec![], vec![]];
     for room in &mut rooms {
         *room = vec![UNTOUCHED; record.length(2, MOST_TABLE)?];
     }
+    Ok((network, rooms))
+}
+
+fn tables_line(record: &mut Record) -> Result<String, String> {
+    let (network, mut rooms) = rooms(record)?;
     let (number, place) = shown(&tables::fill(&network, &mut rooms));
     let mut hash = Fnv::new();
     hash.add(&rooms.concat());
@@ -167,7 +176,7 @@ fn figures_line(record: &mut Record) -> Result<String, String> {
 
 fn line(record: &mut Record) -> Result<String, String> {
     match record.kind {
-        b'T' => tables_line(record),
+        TABLES => tables_line(record),
         b'K' => keys_line(record),
         b'B' => best_line(record),
         b'R' => row_line(record),

@@ -1,7 +1,8 @@
-//! The second program: an independent re-telling of document 01.
+//! The second program: an independent re-telling of document 01, and of
+//! document 02's requests as they land.
 //!
 //! It exists only to be compared with the proved program. It was written from
-//! the specification alone and shares no code and no table with anything else
+//! these documents alone and shares no code and no table with anything else
 //! in the repository; it is not proved, and nothing else may call it. Where it
 //! could be written in another style than the proved program's, it was (a
 //! number's groups are found first and then summed, the plan is made whole
@@ -12,12 +13,14 @@
 //!         (the other files of the program are found beside this one)
 //! Use:    second codec < batch > answers      reader and writer of plans
 //!         second tables < batch > answers     paths, tables, steps and walks
+//!         second rules < batch                entries that show their rule
 //!         second report < plan                a stored plan's report
 //!         second selftest                     reads nothing
 //!
 //! What a batch and its answers look like: ../compare/FORMAT.md.
 //! Exit status: 0, a refused plan's report included; 1 if the self-test found
-//! a fault; 2 if the arguments or the batch are not well formed.
+//! a fault, or if the batch does not tell the rules apart; 2 if the arguments
+//! or the batch are not well formed.
 
 mod batch;
 mod codec;
@@ -26,6 +29,7 @@ mod paths;
 mod plan;
 mod records;
 mod report;
+mod rules;
 mod selftest;
 mod tables;
 mod walk;
@@ -33,7 +37,7 @@ mod walk;
 use std::io::{self, Read, Write};
 use std::process::ExitCode;
 
-const COMMANDS: &str = "codec, tables, report or selftest";
+const COMMANDS: &str = "codec, tables, rules, report or selftest";
 
 fn input() -> Result<Vec<u8>, String> {
     let mut bytes = Vec::new();
@@ -41,7 +45,7 @@ fn input() -> Result<Vec<u8>, String> {
     Ok(bytes)
 }
 
-/// Whether all is well; only the self-test can say that it is not.
+/// Whether all is well; only the self-test and the rules can say that it is not.
 fn run() -> Result<bool, String> {
     let arguments: Vec<String> = std::env::args().skip(1).collect();
     let [command] = arguments.as_slice() else {
@@ -52,6 +56,7 @@ fn run() -> Result<bool, String> {
     match command.as_str() {
         "codec" => codec::run(&input()?, &mut output)?,
         "tables" => records::run(&input()?, &mut output)?,
+        "rules" => well = rules::run(&input()?, &mut output)?,
         "report" => {
             let text = report::text(&input()?);
             output.write_all(text.as_bytes()).map_err(|fault| fault.to_string())?;

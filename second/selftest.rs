@@ -2,16 +2,17 @@
 //! document 01 says of it, before it is held against the proved program.
 //!
 //! Four parts: the bench sheet and the report that document 01 prints; batches
-//! whose lengths are wrong, which must not pass; the two ways to best paths
-//! against each other on small networks full of equal paths; demand 3 on
-//! networks of every size. Nothing is read, and every run does the same. It
-//! prints how often each thing was checked, and up to 20 faults.
+//! whose lengths are wrong, which must not pass, and batches that cannot tell
+//! the rules for backwarding entries apart; the two ways to best paths against
+//! each other on small networks full of equal paths; demand 3 on networks of
+//! every size. Nothing is read, and every run does the same. It prints how
+//! often each thing was checked, and up to 20 faults.
 
 use crate::network::{Graph, Network};
-use crate::paths::{by_tree, by_trial, every_chain, sum_of, Best, Method};
-use crate::tables::{self, Tables};
+use crate::paths::{by_tree, by_trial, every_chain, set_of, sum_of, Best, Method};
+use crate::tables::{self, Lent, Tables};
 use crate::walk::{self, Failure, Step, Walk};
-use crate::{plan, records, report};
+use crate::{plan, records, report, rules};
 use std::collections::BTreeMap;
 
 const MOST_TOLD: usize = 20;
@@ -53,7 +54,10 @@ fn described(network: &Network) -> String {
 
 // ------------------------------------------------------ the bench sheet
 
+const WAYS: [(&str, Method); 2] = [("by trial", by_trial), ("by tree", by_tree)];
+
 const PLAN_A: [u8; 17] = [4, 5, 0, 1, 1, 0, 2, 4, 0, 3, 9, 1, 1, 1, 2, 1, 1];
+const SQUARE: [u8; 14] = [4, 4, 0, 1, 1, 0, 2, 1, 1, 2, 1, 2, 1, 1];
 
 const REPORT_A: &str = "\
 nodes 4 links 5
@@ -140,8 +144,7 @@ fn bench_sheet(tally: &mut Tally) {
     let mut row = |name: &str, holds: bool| {
         tally.check("rows of the bench sheet", holds, || name.to_string());
     };
-    let ways: [(&str, Method); 2] = [("by trial", by_trial), ("by tree", by_tree)];
-    for (way, method) in ways {
+    for (way, method) in WAYS {
         let a = Built::new(&PLAN_A, method);
         row(&format!("routing, {way}"), a.routing(0, 3) == 1);
         row(&format!("key links, {way}"), a.keys(1, 0, 3) == 24);
@@ -155,7 +158,7 @@ fn bench_sheet(tally: &mut Tally) {
         row(&format!("limit 4, {way}"), a.walk(0, 3, Some((2, 3)), 4) == (3, long[..5].to_vec()));
         row(&format!("no way to go, {way}"), a.walk(2, 2, None, 0) == (0, vec![2]));
 
-        let square = Built::new(&[4, 4, 0, 1, 1, 0, 2, 1, 1, 2, 1, 2, 1, 1], method);
+        let square = Built::new(&SQUARE, method);
         row(&format!("square, {way}"), square.routing(0, 3) == 1);
         let pair = Built::new(&[2, 1, 0, 1, 1], method);
         row(&format!("two nodes, {way}"), pair.walk(0, 1, Some((0, 1)), 64) == (2, vec![0]));
@@ -196,6 +199,43 @@ fn batches(tally: &mut Tally) {
         let answered = records::run(&batch, &mut std::io::sink()).is_ok();
         tally.check("batches by their lengths", answered == good, || name.to_string());
     }
+}
+
+/// A record with three tables of this length to be filled.
+fn tables_record(network: &Network, length: u8) -> Vec<u8> {
+    let mut fields = network.nodes.to_le_bytes().to_vec();
+    fields.extend([network.lows.len() as u8; 3]);
+    fields.extend([&network.lows[..], &network.highs].concat());
+    fields.extend(network.weights.iter().flat_map(|weight| weight.to_le_bytes()));
+    fields.extend([length, 0].repeat(3));
+    [&[b'T', fields.len() as u8, 0, 0, 0], &fields[..]].concat()
+}
+
+fn other_rules(tally: &mut Tally) {
+    for (way, method) in WAYS {
+        let a = Built::new(&PLAN_A, method);
+        let others = rules::others(&mut Best::new(&a.graph, method));
+        // Node 1, which cannot send to 0 for 3, would send to 2 by either.
+        let place = a.interface(1, 0) * a.graph.nodes + 3;
+        let holds = rules::count(&others, &a.tables.backwarding) == [4, 4, 1]
+            && [others.own_link_alone[place], others.nearest_alone[place]] == [2, 2];
+        tally.check("other rules on plan A", holds, || way.to_string());
+    }
+    let (a, square) = (Built::new(&PLAN_A, by_tree).network, Built::new(&SQUARE, by_tree).network);
+    for (name, batch, tells) in [
+        ("plan A", tables_record(&a, 40), true),
+        ("both", [tables_record(&square, 40), tables_record(&a, 40)].concat(), true),
+        ("the square, where no interface has two key links", tables_record(&square, 40), false),
+        ("plan A without room", tables_record(&a, 39), false),
+        ("no records", vec![], false),
+    ] {
+        let told = rules::run(&batch, &mut std::io::sink());
+        tally.check("batches that tell the rules apart", told == Ok(tells), || name.to_string());
+    }
+    let mut told = Vec::new();
+    let twice = rules::run(&tables_record(&a, 40).repeat(2), &mut told).is_ok();
+    let once = told.starts_with(b"rules: 40 backwarding entries of 1 networks\n");
+    tally.check("a network counts once for its rules", twice && once, || "plan A".to_string());
 }
 
 // ------------------------------------------------------- random networks
@@ -340,10 +380,28 @@ fn compare_ways(tally: &mut Tally, chance: &mut Chance, network: &Network) {
             } else if one != 0 {
                 tally.count("  such sets of one key link");
             }
+            // 000, section II: on the receiver's best path, and none where
+            // the interface is the usual way to d.
+            let (sender, receiver) = graph.ends(interface);
+            let path = tree.path(0, receiver, d).map_or(0, |chain| set_of(&graph, chain));
+            tally.check("key links lie on the best path", one & !path == 0, place);
+            if usize::from(tables::entry(&mut tree, 0, sender, d)) == receiver {
+                tally.check("usual interfaces have no key links", one == 0, place);
+            }
         }
     }
-    let same = tables::build(&mut trial) == tables::build(&mut tree);
-    tally.check("tables equal both ways", same, || described(network));
+    let (by_trial, by_tree) = (tables::build(&mut trial), tables::build(&mut tree));
+    tally.check("tables equal both ways", by_trial == by_tree, || described(network));
+    let others = [&mut trial, &mut tree].map(rules::others);
+    let [one, other] = others.map(|others| rules::count(&others, &by_tree.backwarding));
+    tally.check("other rules equal both ways", one == other, || described(network));
+    let [_, not_own_link_alone, not_nearest_alone] = one;
+    if not_own_link_alone > 0 {
+        tally.count("  such networks, not as with the own link alone");
+    }
+    if not_nearest_alone > 0 {
+        tally.count("  such networks, not as with the nearest key link");
+    }
 }
 
 // ------------------------------------------------------------- demand 3
@@ -419,6 +477,8 @@ fn walk_all(tally: &mut Tally, network: &Network) {
     let built = tables::build(&mut Best::new(&graph, by_tree));
     let accepted = walk::figures(network, built.lent(), Failure::None).is_ok();
     tally.check("built tables are accepted", accepted, || described(network));
+    let others = rules::others(&mut Best::new(&graph, by_tree));
+    let own_link_alone = Lent { backwarding: &others.own_link_alone, ..built.lent() };
     for failed in std::iter::once(None).chain((0..graph.links.len()).map(Some)) {
         let part = parts(&graph, failed);
         for source in 0..graph.nodes {
@@ -437,6 +497,9 @@ fn walk_all(tally: &mut Tally, network: &Network) {
                 let broken = broken(&graph, &walk, (source, d), failed, joined);
                 let told = || format!("{}, {:?}, {}", broken.unwrap_or(""), walk.nodes, place());
                 tally.check("walks that keep demand 3", broken.is_none(), told);
+                let other = walk::follow(&graph, own_link_alone, source, d, failed, u8::MAX);
+                let same = (other.ending, &other.nodes) == (walk.ending, &walk.nodes);
+                tally.check("walks as with the own link alone taken out", same, place);
                 tally.count(ending_name(walk.ending));
                 if walk.hops() + 3 == 2 * graph.nodes {
                     tally.count("  such walks, as long as allowed");
@@ -459,7 +522,10 @@ pub fn run(output: &mut impl std::io::Write) -> Result<bool, String> {
     };
     let mut chance = Chance(0x5EED);
     part(&mut bench_sheet)?;
-    part(&mut batches)?;
+    part(&mut |tally| {
+        batches(tally);
+        other_rules(tally);
+    })?;
     part(&mut |tally| {
         for _ in 0..SMALL_NETWORKS {
             let nodes = 1 + chance.below(8);
