@@ -1,9 +1,10 @@
 //! Counts the rounds that columns of costs need: for each destination the
-//! column over all links, and the columns without one link each, begun from
-//! that one. It follows `paths/src/column.rt` and is not a part of it: what is
-//! proved says that n - 1 rounds are enough, and this says how many are made.
-//! A column without a link is also filled from nothing, and the two must be
-//! the same.
+//! column over all links, and begun from that one the columns without one link
+//! each, and without an interface's link and key links, for each interface
+//! that has key links. It follows `paths/src/column.rt` and is not a part of
+//! it: what is proved says that n - 1 rounds are enough, and this says how many
+//! are made. A column begun from another is also filled from nothing, and the
+//! two must be the same.
 //!
 //! Build:  rustc -O --edition 2021 -D warnings rounds.rs
 //! Use:    rounds PLAN ...
@@ -107,50 +108,93 @@ impl Count {
     }
 }
 
-/// The counts over all links and without one, or none if two columns differ.
-fn count(network: &Network) -> Option<(Count, Count)> {
-    let (mut whole, mut without) = (Count::default(), Count::default());
+/// The column without the links, begun from the one over all links, if it is
+/// the one begun from nothing too.
+fn without(network: &Network, all: &Column, destination: usize, out: u128, count: &mut Count) -> Option<Column> {
+    let mut column: Column = all.iter().map(|cost| cost.filter(|_| !uses(cost, out))).collect();
+    if column != *all {
+        count.add(settle(network, &mut column, out));
+    }
+    let mut again = start(network, destination);
+    settle(network, &mut again, out);
+    (again == column).then_some(column)
+}
+
+/// The link by which a node's best path begins, and the node after it: the one
+/// that has all links of the path but that.
+fn first(network: &Network, column: &Column, node: usize) -> Option<(usize, usize)> {
+    let (_, set) = column[node]?;
+    let ends = |link: &Link| [(link.low, link.high), (link.high, link.low)];
+    let mut ways = (0..network.links.len()).flat_map(|number| ends(&network.links[number]).map(|(from, to)| (number, from, to)));
+    let leads = |number: usize, to: usize| column[to].is_some_and(|(_, rest)| rest | 1 << number == set && rest >> number & 1 == 0);
+    ways.find(|&(number, from, to)| from == node && leads(number, to)).map(|(number, _, to)| (number, to))
+}
+
+/// Whether the best path of a node crosses the link, entering `to`.
+fn crosses(network: &Network, column: &Column, mut node: usize, link: usize, to: usize) -> bool {
+    while let Some((number, next)) = first(network, column, node) {
+        if (number, next) == (link, to) {
+            return true;
+        }
+        node = next;
+    }
+    false
+}
+
+/// The counts over all links, without one, and without an interface's link and
+/// key links; or none if two columns differ.
+fn count(network: &Network) -> Option<[Count; 3]> {
+    let [mut whole, mut less, mut aside] = [Count::default(), Count::default(), Count::default()];
     for destination in 0..network.nodes {
         let mut all = start(network, destination);
         whole.add(settle(network, &mut all, 0));
+        let mut columns = Vec::new();
         for number in 0..network.links.len() {
-            let out = 1 << number;
-            let mut column: Column = all.iter().map(|cost| cost.filter(|_| !uses(cost, out))).collect();
-            if column != all {
-                without.add(settle(network, &mut column, out));
-            }
-            let mut again = start(network, destination);
-            settle(network, &mut again, out);
-            if again != column {
-                return None;
+            columns.push(without(network, &all, destination, 1 << number, &mut less)?);
+        }
+        for node in 0..network.nodes {
+            // only an interface that enters a node from where it would send has key links
+            let Some((own, _)) = first(network, &all, node) else {
+                continue;
+            };
+            let is_key = |&number: &usize| {
+                let Link { low, high, .. } = network.links[number];
+                [low, high].iter().any(|&end| crosses(network, &columns[number], end, own, node))
+            };
+            let keys: u128 = (0..columns.len()).filter(is_key).map(|number| 1 << number).sum();
+            if keys != 0 {
+                without(network, &all, destination, keys | 1 << own, &mut aside)?;
             }
         }
     }
-    Some((whole, without))
+    Some([whole, less, aside])
 }
 
 fn main() -> ExitCode {
-    println!("plan        n - 1   all links       without one link");
-    println!("                    average  most   columns  of them touched  average  most");
+    println!("plan        n - 1   all links       without one link                          without key links");
+    println!("                    average  most   columns  of them touched  average  most   columns  average  most");
     for plan in std::env::args().skip(1) {
         let Some(network) = std::fs::read(&plan).ok().and_then(|bytes| read(&bytes)) else {
             eprintln!("rounds: {plan} is no plan");
             return ExitCode::from(2);
         };
-        let Some((whole, without)) = count(&network) else {
+        let Some([whole, less, aside]) = count(&network) else {
             eprintln!("rounds: {plan}: a column begun from another is not the one begun from nothing");
             return ExitCode::from(1);
         };
         let name = Path::new(&plan).file_stem().and_then(|stem| stem.to_str()).unwrap_or(&plan);
         println!(
-            "{name:10}  {:5}  {:8.2}  {:4}  {:8}  {:15}  {:7.2}  {:4}",
+            "{name:10}  {:5}  {:8.2}  {:4}  {:8}  {:15}  {:7.2}  {:4}  {:8}  {:7.2}  {:4}",
             network.nodes - 1,
             whole.average(),
             whole.most,
             network.nodes * network.links.len(),
-            without.columns,
-            without.average(),
-            without.most
+            less.columns,
+            less.average(),
+            less.most,
+            aside.columns,
+            aside.average(),
+            aside.most
         );
     }
     ExitCode::SUCCESS
