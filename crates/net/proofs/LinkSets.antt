@@ -1,29 +1,18 @@
 -- The laws of sets of links: each operation by the set's number, and by the links that are in it. What is above this crate cites these
 -- and sees no word.
 use Prim.Native.Nat.{ℕ, _^_, _/_, _≤_, _<_, max}
-use mathlib.Core.Bool.{Bool, true, false, not}
+use mathlib.Core.Bool.{Bool, true, false, true≢false}
 use mathlib.Core.Path.{_≡_, refl, sym, ap, _∙_}
 use mathlib.Core.Logic.{_≢_, _↔_}
 use native.Mathlib.Nat.{zero-div, div-eq-of-lt, pow-le-pow-right}
 use native.Mathlib.Omega.{arith}
-use borrow.Author.Tests.{eq-eqb, ne-eqb, eqb-true, eqb-false}
+use borrow.Author.Tests.{eq-eqb, ne-eqb, eqb-true, eqb-false, not-true, not-false}
 use lib.Bits.{bitAnd, bitOr}
 use lib.Dec.{ltb, eqb}
 use Rattle.graph.specs.Set.{bit}
 use Rattle.graph.proofs.Sets.{bit-or, bit-own, bit-other, bit-and, some-bit}
 use Rattle.net.specs.inner.LinkSet.{value, noLinks, withLink, hasLink, isEmpty, comesBefore, meeting, Without}
 use Rattle.net.specs.declared.link_set.LinkSet.{LinkSet}
-
-true-not-false : true ≡ false → ⊥
-true-not-false e = let z : _≡_ {A = ℕ} 0 1 = cc in omega arith
-
-not-false : (b : Bool) → not b ≡ false → b ≡ true
-not-false true e = refl
-not-false false e = absurd (true-not-false e)
-
-not-true : (b : Bool) → not b ≡ true → b ≡ false
-not-true true e = absurd (true-not-false (sym e))
-not-true false e = refl
 
 -- by the number
 pub value-none : value noLinks ≡ 0
@@ -63,7 +52,7 @@ has-link-past s width k small past =
 
 -- by the links: one that is in the set is not left in when the set is taken out
 pub not-both : (s : LinkSet) (k : ℕ) → hasLink s k ≡ true → Without s k → ⊥
-not-both s k has lacks = true-not-false (sym has ∙ lacks)
+not-both s k has lacks = true≢false (sym has ∙ lacks)
 
 pub without? : (s : LinkSet) (k : ℕ) → Dec (Without s k)
 without? s k = go (hasLink s k) refl

@@ -3,7 +3,7 @@
 -- first, which is a total order. A link that is not on the node's own best path is not key, so that what is kept stays without any trying.
 -- Neither is any link at the destination itself, or where the node has no way on.
 use Prim.Native.Nat.{ℕ, suc, _≤_, _<_}
-use mathlib.Core.Bool.{Bool, true, false}
+use mathlib.Core.Bool.{Bool, true, false, false≢true}
 use mathlib.Core.Path.{_≡_, refl, sym, _∙_}
 use mathlib.Core.Logic.{_⊎_, inl, inr, _≢_, _↔_}
 use mathlib.Core.List.{List, [], _∷_}
@@ -31,7 +31,7 @@ use Rattle.tables.specs.declared.kept.Kept.{Kept}
 use Rattle.tables.specs.inner.KeyTest.{crossesLink, keyTest}
 use Rattle.tables.specs.inner.Detours.{dearerOf, noted, Dearest, no-key, dearest, Keeps, SquareKept}
 use Rattle.tables.specs.inner.Detours.{nothingKept, noneKept, keptFor, keptAt}
-use Rattle.tables.proofs.Tests.{false-true, both-true}
+use Rattle.tables.proofs.Tests.{both-true}
 use Rattle.tables.proofs.KeyTest.{key-test-by-columns, key-crossed}
 use Rattle.tables.proofs.KeptKeys.{back-enters, back-present}
 use Rattle.tables.proofs.KeyLoop.{keys-begin, keys-with, keys-without}
@@ -174,7 +174,7 @@ module _ (R : Rows) (W : WellFormed (networkOf R)) {d k : ℕ} (present : Presen
         free : i ≢ d → entryAt all i .sum < unknown → KeyLink N d (reverse f) k → ⊥
         free away known key =
             let shown : Shows N All (head N (reverse f)) d (entryAt all i) = rw (enters away known) (whole .shows i node) in
-            false-true (sym uncrossed ∙ key-crossed N W shown key)
+            false≢true (sym uncrossed ∙ key-crossed N W shown key)
 
     -- one that is tried
     module _ (away : i ≢ d) where
@@ -199,7 +199,7 @@ module _ (R : Rows) (W : WellFormed (networkOf R)) {d k : ℕ} (present : Presen
         where
           go : (b : Bool) → test ≡ b → Keeps N i d (suc k) (entryAt all i)
               (pick b (record { keys = withLink (c .keys) k; detour = dearerOf (c .detour) (entryAt without i) }) c)
-          go false e = kept-free c (λ apart known key. false-true (sym e ∙ tells known .1 key)) K
+          go false e = kept-free c (λ apart known key. false≢true (sym e ∙ tells known .1 key)) K
           go true e =
               let known = routed e in
               let key = tells known .0 e in

@@ -62,7 +62,7 @@ module _ (N : Network) (W : WellFormed N) {d : ℕ} (h : ℕ) where
   key-in-set {k} are key z = omega (arith, zero-div (2 ^ k), rw z at (are .bits k (W .numbered k (key .present)) .1 key))
 
   -- so an empty set says that no link is key; and it is right where none is
-  pub empty-free : (keys : LinkSet) → SetOf (N .links) (KeyLink N d h) (value keys) → isEmpty keys ≡ true → (k : ℕ) → Free N d h k
+  empty-free : (keys : LinkSet) → SetOf (N .links) (KeyLink N d h) (value keys) → isEmpty keys ≡ true → (k : ℕ) → Free N d h k
   empty-free keys are empty k key = key-in-set are key (empty-value keys .0 empty)
 
   free-empty : (keys : LinkSet) → ((k : ℕ) → Free N d h k) → keys ≡ noLinks → SetOf (N .links) (KeyLink N d h) (value keys)

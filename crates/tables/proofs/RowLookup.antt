@@ -2,7 +2,7 @@
 -- The code asks for the interface's number below the count of whole rows, since the row's place may be too large for a number in
 -- memory; the definition asks for the row's end within the table. The two are the same for one byte a row or more.
 use Prim.Native.Nat.{ℕ, suc, _+_, _*_, _-_, _/_, _≤_, _<_}
-use mathlib.Core.Bool.{Bool, true, false}
+use mathlib.Core.Bool.{Bool, true, false, false≢true}
 use mathlib.Core.Path.{_≡_, refl, sym, _∙_}
 use mathlib.Core.Logic.{_≢_, _↔_}
 use mathlib.Core.List.{List, []}
@@ -16,7 +16,6 @@ use Rattle.net.specs.Choice.{pick}
 use Rattle.net.specs.Check.{badNodeCount}
 use Rattle.net.proofs.Faults.{no-nodes}
 use Rattle.tables.specs.Row.{rowCheck, rowOf}
-use Rattle.tables.proofs.Tests.{false-true}
 
 -- a number not below the count of whole rows is that of a row that ends past the table's end
 past-end : (long n i : ℕ) → 0 < n → (long / n ≤ i) ↔ (long < i * n + n)
@@ -39,7 +38,7 @@ module _ (table : List ℕ) (n i : ℕ) where
     -- a node count that passes is not 0, so that it divides
     pub some-node : 0 < n
     some-node =
-        elim (ℕ-discrete n 0) [ yes e ↦ absurd (false-true (sym good ∙ no-nodes n e)) | no some ↦ omega arith ]
+        elim (ℕ-discrete n 0) [ yes e ↦ absurd (false≢true (sym good ∙ no-nodes n e)) | no some ↦ omega arith ]
 
     pub row-past : length table / n ≤ i → rowCheck table n i ≡ interfaceNumber
     unfolding rowCheck

@@ -1,6 +1,7 @@
 -- `keys_of` tries each link by the column without it. The loop's invariant: the set is that of the key links below k. The entries
 -- that it reads are those of nodes: the interface's two ends, and the ends of link k.
 use Prim.Native.Nat.{ℕ, _-_, _≤_, _<_}
+use mathlib.Core.Bool.{false≢true}
 use mathlib.Core.Path.{_≡_, refl, sym, ap, _∙_}
 use mathlib.Core.Logic.{⊎-elim}
 use mathlib.Core.List.{List}
@@ -13,7 +14,6 @@ use Rattle.net.specs.Rows.{Rows, networkOf}
 use Rattle.net.specs.Check.{Joins}
 use Rattle.net.specs.inner.LinkSet.{withLink}
 use Rattle.tables.specs.inner.Detours.{KeysBelow}
-use Rattle.tables.proofs.Tests.{false-true}
 use Rattle.tables.proofs.KeyLoop.{head-below, tail-below, no-keys-here}
 use Rattle.tables.proofs.KeyLoop.{keys-begin, keys-with, keys-without, keys-done, key-read}
 use Rattle.tables.proofs.key.keys_of.Statement.{statement}
@@ -182,7 +182,7 @@ loop-again c =
       rw (add-one (at .k))
           (⊎-elim
           (λ w. rw (w .2 ∙ w .1 .ensures) (keys-with (at .keys) (number in-loop) (key .0 (test ∙ w .0 .taken)) (at .inv .2)))
-          (λ w. rw (w .1) (keys-without (at .keys) (λ found. false-true (sym (test ∙ w .0 .left) ∙ key .1 found)) (at .inv .2)))
+          (λ w. rw (w .1) (keys-without (at .keys) (λ found. false≢true (sym (test ∙ w .0 .left) ∙ key .1 found)) (at .inv .2)))
           (c .if2 .came)),
     )
 
