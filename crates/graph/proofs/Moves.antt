@@ -12,8 +12,8 @@ use borrow.Author.Tests.{eq-eqb, ne-eqb}
 use lib.ListN.{length}
 use Rattle.graph.specs.Network.{Network, link, head}
 use Rattle.graph.specs.Entries.{Hop, here, onward, nowhere}
-use Rattle.graph.specs.Walk.{Tables, Step, crosses, nothing, drops, around, stepBy, Ending, delivered, dropped, exhausted, astray}
-use Rattle.graph.specs.Walk.{Course, endsBy, crossing, goesOn, walkFrom}
+use Rattle.graph.specs.Walk.{Tables, Step, crosses, nothing, drops, around, stepBy, Ending, delivered, dropped, exhausted}
+use Rattle.graph.specs.Walk.{Course, endsBy, crossing, goesOn, walkFrom, walkOn}
 
 -- an entry that leads to no interface
 pub data Leadless : Hop → Type 0 where
@@ -64,13 +64,12 @@ module _ (failed : ℕ → Bool) (next : ℕ → Course) (one other : Ending) wh
 
 -- the walk past the failed link: the backwarding move, with so many hops left after it
 abbrev pub walkAround : Network → (ℕ → Bool) → Tables → ℕ → ℕ → Hop → Course
-walkAround N failed T d limit entry =
-    goesOn (λ f. walkFrom N failed T d limit (head N f) (T .forwarding f) astray) dropped (around failed entry)
+walkAround N failed T d limit entry = goesOn (walkOn N failed T d limit) dropped (around failed entry)
 
 module _ (N : Network) (failed : ℕ → Bool) (T : Tables) (d i : ℕ) where
   -- what is left after a step over an interface
   abbrev onwards : ℕ → ℕ → Course
-  onwards limit f = walkFrom N failed T d limit (head N f) (T .forwarding f) astray
+  onwards = walkOn N failed T d
 
   pub walk-delivered : (limit : ℕ) (entry : Hop) (lost : Ending) → i ≡ d → walkFrom N failed T d limit i entry lost ≡ endsBy delivered
   unfolding walkFrom
@@ -139,5 +138,5 @@ module _ (N : Network) (failed : ℕ → Bool) (T : Tables) (d : ℕ) where
       elim (ℕ-discrete i d) [
         | yes e ↦ rw (eq-eqb i d e, walkFrom) (omega arith)
         | no e ↦ rw (ne-eqb i d e, walkFrom)
-            (short-on limit _ (λ f. walk-short limit (head N f) (T .forwarding f) astray) lost (stepBy failed (T .backwarding) entry))
+            (short-on limit _ (λ f. walk-short limit (head N f) (T .forwarding f) _) lost (stepBy failed (T .backwarding) entry))
       ]

@@ -84,10 +84,10 @@ module _ {N : Network} {failed : ℕ → Bool} {T : Tables} {d : ℕ} where
   goes-walk {i} (suc limit) lost (blocked n down no-entry) room = rw (ne-eqb i d n, walkFrom, down, stepBy, no-entry, around)
   goes-walk zero lost (goes-on n up next w) room = absurd (omega arith)
   goes-walk {i} (suc limit) lost (goes-on n up next w) room =
-      rw (ne-eqb i d n, walkFrom, up, stepBy, next, goes-walk limit astray w (omega arith))
+      rw (ne-eqb i d n, walkFrom, up, stepBy, next, goes-walk limit _ w (omega arith))
   goes-walk zero lost (goes-round n down entry up next w) room = absurd (omega arith)
   goes-walk {i} (suc limit) lost (goes-round n down entry up next w) room =
-      rw (ne-eqb i d n, walkFrom, down, stepBy, entry, around, up, next, goes-walk limit astray w (omega arith))
+      rw (ne-eqb i d n, walkFrom, down, stepBy, entry, around, up, next, goes-walk limit _ w (omega arith))
 
 -- with no entry to follow it ends where it stands
 pub lost-walk : (N : Network) (failed : ℕ → Bool) (T : Tables) {i d : ℕ} (limit : ℕ) (lost : Ending) → i ≢ d → 0 < limit

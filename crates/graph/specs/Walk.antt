@@ -73,6 +73,10 @@ walkFrom N failed T d (suc limit) i entry lost =
           goesOn (λ f. walkFrom N failed T d limit (head N f) (T .forwarding f) astray) lost (stepBy failed (T .backwarding) entry)
     ]
 
+-- the walk from an arrival over interface f: it goes on with the forwarding entry of that interface
+abbrev pub walkOn : Network → (ℕ → Bool) → Tables → ℕ → ℕ → ℕ → Course
+walkOn N failed T d limit f = walkFrom N failed T d limit (head N f) (T .forwarding f) astray
+
 -- the walk from a source: it starts with the routing entry
 unfoldable pub walkOf : Network → (ℕ → Bool) → Tables → ℕ → ℕ → ℕ → Course
 walkOf N failed T d limit s = walkFrom N failed T d limit s (T .routing s) unrouted

@@ -7,8 +7,8 @@ use mathlib.Core.Path.{_≡_, refl, ap, _∙_}
 use lib.Dec.{eqb}
 use Rattle.graph.specs.Network.{Network, WellFormed, link, head}
 use Rattle.graph.specs.Entries.{Hop, here, onward, nowhere, Entry, at-destination, starts, lacks}
-use Rattle.graph.specs.Walk.{Tables, Step, crosses, nothing, drops, around, stepBy, Ending, delivered, unrouted, astray}
-use Rattle.graph.specs.Walk.{Course, endsBy, crossing, goesOn, walkFrom, walkOf}
+use Rattle.graph.specs.Walk.{Tables, Step, crosses, nothing, drops, around, stepBy, Ending, delivered, unrouted}
+use Rattle.graph.specs.Walk.{Course, endsBy, crossing, goesOn, walkFrom, walkOn, walkOf}
 use Rattle.graph.specs.Demand3.{BuiltEntries}
 use Rattle.graph.proofs.Chain.{first-present}
 use Rattle.graph.proofs.Entries.{entry-one}
@@ -61,11 +61,10 @@ module _ (N : Network) (W : WellFormed N) (failed : ℕ → Bool) (d : ℕ) (T U
 
   -- the walk after a step
   abbrev after : Tables → ℕ → Ending → Step → Course
-  after S limit = goesOn (λ f. walkFrom N failed S d limit (head N f) (S .forwarding f) astray)
+  after S limit = goesOn (walkOn N failed S d limit)
 
   same-after : (limit : ℕ) (lost : Ending) {s : Step} → StepsOver N s
-      → ((f : ℕ) → N .Present (link f)
-      → walkFrom N failed T d limit (head N f) (T .forwarding f) astray ≡ walkFrom N failed U d limit (head N f) (U .forwarding f) astray)
+      → ((f : ℕ) → N .Present (link f) → walkOn N failed T d limit f ≡ walkOn N failed U d limit f)
       → after T limit lost s ≡ after U limit lost s
   unfolding goesOn
   same-after limit lost loses next = refl
@@ -80,7 +79,7 @@ module _ (N : Network) (W : WellFormed N) (failed : ℕ → Bool) (d : ℕ) (T U
       ap (λ (c : Course). elim (eqb i d) as (λ x. Course) [ true ↦ endsBy delivered | false ↦ c ])
       (same-after limit lost (step-over over) (λ f up.
       rw (entry-one N W (also .forwarding f up) (built .forwarding f up))
-      (same-from limit (head N f) astray (entry-leads N (built .forwarding f up))))
+      (same-from limit (head N f) _ (entry-leads N (built .forwarding f up))))
       ∙ ap (after U limit lost) (same-step over))
 
   pub same-walk : (limit s : ℕ) → s < N .nodes → walkOf N failed T d limit s ≡ walkOf N failed U d limit s

@@ -6,7 +6,7 @@ use mathlib.Core.List.{List, map}
 use lib.ListN.{length}
 use Rattle.graph.specs.Network.{Network, head, tail}
 use Rattle.graph.specs.Path.{visits}
-use Rattle.graph.specs.Walk.{Ending, unrouted, dropped, astray, Course, around, goesOn, walkFrom}
+use Rattle.graph.specs.Walk.{Ending, unrouted, dropped, astray, Course, around, goesOn, walkFrom, walkOn}
 use Rattle.net.specs.Rows.{Rows, networkOf}
 use Rattle.net.specs.Failure.{fails}
 use Rattle.net.specs.inner.Overwritten.{overwritten}
@@ -49,8 +49,7 @@ courseAround R T question packet f =
     let d = question .destination .0 in
     let failed = fails (question .failure) in
     let entries = tablesFor R T d in
-    goesOn (λ g. walkFrom (networkOf R) failed entries d (packet .left - 1) (head (networkOf R) g) (entries .forwarding g) astray)
-    dropped (around failed (entries .backwarding f))
+    goesOn (walkOn (networkOf R) failed entries d (packet .left - 1)) dropped (around failed (entries .backwarding f))
 
 -- what is known where a packet stands at a node
 pub record Standing (n : ℕ) (map forwarding backwarding : List ℕ) (question : Question) (packet : Packet) (trace : List ℕ) : Type 0 where
