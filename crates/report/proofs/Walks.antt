@@ -6,12 +6,12 @@
 use Prim.Native.Nat.{ℕ, zero, suc, _+_, _*_, _≤_, _<_, max}
 use mathlib.Core.Path.{_≡_, refl, sym, ap, subst, _∙_}
 use mathlib.Core.Logic.{_≢_, _⊎_, inl, inr}
-use mathlib.Core.List.{List}
 use native.Mathlib.Nat.{suc-mul, mul-le-mul}
+use native.Mathlib.Decide.{ℕ-discrete}
 use native.Mathlib.Omega.{arith}
 use borrow.Author.Tests.{eq-eqb, ne-eqb}
 use lib.ListN.{length}
-use Rattle.graph.specs.Walk.{Ending, delivered, unrouted, dropped, exhausted, astray, Course, walkOf}
+use Rattle.graph.specs.Walk.{delivered, unrouted, Course, walkOf}
 use Rattle.graph.proofs.Moves.{walk-short}
 use Rattle.net.specs.Limits.{mostNodes, reportHops}
 use Rattle.net.specs.Rows.{Rows}
@@ -19,7 +19,7 @@ use Rattle.net.specs.declared.failure.Failure.{Failure}
 use Rattle.tables.specs.Lent.{LentTables}
 use Rattle.walk.specs.Walk.{endingNumber, courseOf}
 use Rattle.report.specs.Line.{sumBelow, mostBelow, sumOverPairs, mostOverPairs}
-use Rattle.report.specs.Line.{countsDelivered, countsOther, countsHops, noLine, lineOver, lineOf}
+use Rattle.report.specs.Line.{endsWith, countsDelivered, countsOther, countsHops, noLine, lineOver, lineOf}
 use Rattle.report.specs.inner.Counting.{courseAt, countedLine, lineBelow, AtMostWalks}
 use Rattle.report.specs.declared.counting.Line.{Line}
 use Rattle.report.proofs.Sums.{apart, apart-own, apart-other, apart-bounded, sum-more, most-more, sum-bounded}
@@ -43,15 +43,16 @@ pub record AsOther (c : Course) : Type 0 where
   pub hops : countsHops c ≡ 0
 
 pub counts : (c : Course) → AsDelivered c ⊎ AsOther c
-unfolding endingNumber countsDelivered countsOther countsHops
-counts c = by (c .ending) (c .crossed)
-  where
-    by : (e : Ending) (crossed : List ℕ) → let c : Course = record { crossed = crossed; ending = e } in AsDelivered c ⊎ AsOther c
-    by delivered crossed = inl (record { number = refl; one = refl; other = refl; hops = refl })
-    by unrouted crossed = inr (record { number = λ q. omega arith; one = refl; other = refl; hops = refl })
-    by dropped crossed = inr (record { number = λ q. omega arith; one = refl; other = refl; hops = refl })
-    by exhausted crossed = inr (record { number = λ q. omega arith; one = refl; other = refl; hops = refl })
-    by astray crossed = inr (record { number = λ q. omega arith; one = refl; other = refl; hops = refl })
+unfolding countsDelivered countsOther countsHops endsWith
+counts c =
+    elim (ℕ-discrete (endingNumber (c .ending)) (endingNumber delivered)) [
+      | yes is ↦
+          let test = eq-eqb _ _ is in
+          inl (record { number = is; one = rw test; other = rw test; hops = rw test })
+      | no other ↦
+          let test = ne-eqb _ _ other in
+          inr (record { number = other; one = rw test; other = rw test; hops = rw test })
+    ]
 
 -- each walk is delivered or counts as dropped, and counts for no more hops than it has
 pub counts-one : (c : Course) → countsDelivered c + countsOther c ≡ 1

@@ -1,8 +1,9 @@
 -- One failure line (document 01, "Report program"). Each definition stands under the words that it says.
 use Prim.Native.Nat.{ℕ, zero, suc, _+_, max}
+use mathlib.Core.Bool.{Bool}
 use lib.ListN.{length}
 use lib.Dec.{eqb}
-use Rattle.graph.specs.Walk.{delivered, unrouted, dropped, exhausted, astray, Course}
+use Rattle.graph.specs.Walk.{Ending, delivered, Course}
 use Rattle.net.specs.Limits.{reportHops}
 use Rattle.net.specs.Choice.{pick}
 use Rattle.net.specs.Refusals.{accepted}
@@ -12,7 +13,7 @@ use Rattle.net.specs.declared.check.Verdict.{Verdict}
 use Rattle.net.specs.declared.failure.Failure.{Failure}
 use Rattle.tables.specs.Lent.{LentTables}
 use Rattle.walk.specs.Lent.{lentVerdict}
-use Rattle.walk.specs.Walk.{courseOf}
+use Rattle.walk.specs.Walk.{endingNumber, courseOf}
 use Rattle.report.specs.declared.counting.Line.{Line}
 use Rattle.report.specs.declared.counting.Figures.{Figures}
 
@@ -32,17 +33,21 @@ sumOverPairs n f = sumBelow n (λ s. sumBelow n (λ d. pick (eqb d s) 0 (f s d))
 unfoldable pub mostOverPairs : ℕ → (ℕ → ℕ → ℕ) → ℕ
 mostOverPairs n f = mostBelow n (λ s. mostBelow n (λ d. pick (eqb d s) 0 (f s d)))
 
+-- whether a walk has this ending, by its number
+unfoldable pub endsWith : Ending → Course → Bool
+endsWith ending c = eqb (endingNumber (c .ending)) (endingNumber ending)
+
 -- "walks ended by 0": what one walk counts for
 unfoldable pub countsDelivered : Course → ℕ
-countsDelivered c = elim (c .ending) [ delivered ↦ 1 | unrouted ↦ 0 | dropped ↦ 0 | exhausted ↦ 0 | astray ↦ 0 ]
+countsDelivered c = pick (endsWith delivered c) 1 0
 
 -- "all other walks"
 unfoldable pub countsOther : Course → ℕ
-countsOther c = elim (c .ending) [ delivered ↦ 0 | unrouted ↦ 1 | dropped ↦ 1 | exhausted ↦ 1 | astray ↦ 1 ]
+countsOther c = pick (endsWith delivered c) 0 1
 
 -- "hops [..] over delivered walks"
 unfoldable pub countsHops : Course → ℕ
-countsHops c = elim (c .ending) [ delivered ↦ length (c .crossed) | unrouted ↦ 0 | dropped ↦ 0 | exhausted ↦ 0 | astray ↦ 0 ]
+countsHops c = pick (endsWith delivered c) (length (c .crossed)) 0
 
 -- "walks ended by 0, all other walks, hops summed over delivered walks, most hops of a delivered walk (0 if none)"
 unfoldable pub lineOver : ℕ → (ℕ → ℕ → Course) → Line
