@@ -1,7 +1,6 @@
 -- The forwarding entry without looking for the nearest key link. Each key link taken out by itself gives a best path from the
 -- interface's head; the dearest of these is the best path without all key links. For the path without all of them is a path without
 -- each, so none of them costs more; and the nearest key link's costs the same (K2).
-use mathlib.Core.Path.{_≡_, sym}
 use mathlib.Core.List.{List}
 use Prim.Native.Nat.{ℕ, _≤_}
 use native.Mathlib.Omega.{arith}

@@ -1,10 +1,9 @@
 -- The walk told move by move, by the tests that a walker makes in their order: destination reached; hop limit used up; no entry to
 -- follow; the entry's link works; it has failed, and the backwarding entry leads on, or the packet is dropped. These are the laws by
 -- which code that walks is held against the definition. With them: a walk crosses at most as many links as its limit.
-use mathlib.Core.Path.{_≡_, refl, sym, ap, _∙_}
+use mathlib.Core.Path.{_≡_, refl, ap, _∙_}
 use mathlib.Core.Logic.{_≢_}
 use mathlib.Core.Bool.{Bool, true, false}
-use mathlib.Core.List.{List}
 use Prim.Native.Nat.{ℕ, zero, suc, _-_, _≤_}
 use native.Mathlib.Decide.{ℕ-discrete}
 use native.Mathlib.Omega.{arith}

@@ -1,9 +1,9 @@
 -- The laws of the check: what each test means, what a link's fault is after the tests before it, and how the loop over the links
 -- goes on.
-use Prim.Native.Nat.{ℕ, zero, suc, _+_, _-_, _≤_, _<_}
-use mathlib.Core.Bool.{Bool, true, false}
-use mathlib.Core.Path.{_≡_, refl, sym, _∙_}
-use mathlib.Core.Logic.{_⊎_, inl, inr, _≢_}
+use Prim.Native.Nat.{ℕ, suc, _+_, _-_, _≤_, _<_}
+use mathlib.Core.Bool.{true, false}
+use mathlib.Core.Path.{_≡_}
+use mathlib.Core.Logic.{_≢_}
 use native.Mathlib.Nat.{sub-zero}
 use native.Mathlib.Omega.{arith}
 use borrow.Author.Tests.{ne-eqb, eq-eqb, lt-ltb, le-ltb}
@@ -12,7 +12,6 @@ use Rattle.net.specs.Refusals.{accepted, nodeCount, linkCount, linkEnds,
 use Rattle.net.specs.Limits.{mostNodes, mostLinks}
 use Rattle.net.specs.Rows.{Rows}
 use Rattle.net.specs.Check.{badEnds, outOfOrder, badWeight, linkFault, linksFrom, verdict, rowsDiffer, badNodeCount, checkNetwork}
-use Rattle.net.specs.declared.check.Verdict.{Verdict}
 
 module _ (R : Rows) (k : ℕ) where
   open Rows R using (nodes as n, low, high, weight)

@@ -1,6 +1,6 @@
 -- The rows are a network of the mathematics: its tails and heads are read off the two rows of ends, by the interface's direction.
-use Prim.Native.Nat.{ℕ, zero, suc, _*_, _%_, _<_}
-use mathlib.Core.Path.{_≡_, refl, sym, ap}
+use Prim.Native.Nat.{ℕ, _*_, _%_, _<_}
+use mathlib.Core.Path.{_≡_, refl}
 use mathlib.Core.List.{List}
 use native.Mathlib.Decide.{decLt}
 use native.Mathlib.Omega.{arith}

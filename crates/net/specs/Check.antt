@@ -1,6 +1,6 @@
 -- The check of a network in memory: "Every entry on a network in memory checks 9, 3, 4, then link by link 5, 7, 6; the place is that
 -- link's number, else 0." First as a reader would do it, then what an accepted network is, in document 01's words.
-use Prim.Native.Nat.{ℕ, zero, suc, _+_, _-_, _≤_, _<_}
+use Prim.Native.Nat.{ℕ, zero, suc, _-_, _≤_, _<_}
 use mathlib.Core.Bool.{Bool, not}
 use mathlib.Core.Path.{_≡_}
 use mathlib.Core.Logic.{_⊎_}

@@ -1,6 +1,6 @@
 -- "A failure is either none or one link by number": which links it makes fail, and its refusal.
 use Prim.Native.Nat.{ℕ}
-use mathlib.Core.Bool.{Bool, true, false}
+use mathlib.Core.Bool.{Bool, false}
 use lib.Dec.{eqb, leb}
 use Rattle.net.specs.Choice.{pick}
 use Rattle.net.specs.Refusals.{accepted, failedLink}

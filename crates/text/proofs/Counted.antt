@@ -1,7 +1,7 @@
 -- The front of a row: where the row has n elements, its first n are n. And the number of the bytes from a place on: of none it is 0, and
 -- with one byte more it is moved up by that byte.
 use Prim.Native.Nat.{ℕ, suc, _≤_, _<_}
-use mathlib.Core.Path.{_≡_, sym, ap}
+use mathlib.Core.Path.{_≡_, sym}
 use mathlib.Core.List.{List}
 use lib.ListN.{length, getD, take, drop}
 use lib.Seq.{length-take-le, drop-cons, drop-length}

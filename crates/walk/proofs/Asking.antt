@@ -1,5 +1,5 @@
 -- What a step or a walk is asked: the first refusal of the question, and what is known of a question that is taken.
-use Prim.Native.Nat.{ℕ, _*_, _/_, _<_, _≤_}
+use Prim.Native.Nat.{ℕ, _*_, _/_, _<_}
 use mathlib.Core.Bool.{Bool, true, false}
 use mathlib.Core.Path.{_≡_, refl, sym, _∙_}
 use native.Mathlib.Decide.{decLe}
@@ -8,7 +8,7 @@ use borrow.Author.Tests.{le-leb, lt-leb, leb-false}
 use lib.Dec.{leb}
 use Rattle.graph.specs.Network.{link}
 use Rattle.net.specs.Choice.{pick}
-use Rattle.net.specs.Refusals.{accepted, interfaceNumber, nodeNumber}
+use Rattle.net.specs.Refusals.{accepted}
 use Rattle.net.specs.Failure.{failureNumber}
 use Rattle.net.specs.declared.interface.Node.{Node}
 use Rattle.net.specs.declared.interface.Interface.{Interface}

@@ -1,27 +1,25 @@
 -- The walk from where a packet stands, by the tests that the moves make, and what a move adds to answer and trace. Answer and trace go
 -- together: a move that crosses a link has stored its node one place on, so the rest of the walk from there is the whole.
-use Prim.Native.Nat.{ℕ, zero, suc, _+_, _*_, _-_, _<_}
+use Prim.Native.Nat.{ℕ, _+_, _*_, _-_, _<_}
 use mathlib.Core.Bool.{true, false}
-use mathlib.Core.Path.{_≡_, refl, sym, ap, subst, _∙_}
+use mathlib.Core.Path.{_≡_, sym, subst, _∙_}
 use mathlib.Core.Logic.{_≢_}
-use mathlib.Core.List.{List, [], _∷_, _++_, map}
+use mathlib.Core.List.{List, map}
 use native.Mathlib.Omega.{arith}
-use lib.ListN.{length, getD, set, drop, length-map}
+use lib.ListN.{length, getD, set}
 use Rattle.graph.specs.Network.{Network, link, tail, head}
 use Rattle.graph.specs.Path.{visits}
-use Rattle.graph.specs.Entries.{Hop, onward}
-use Rattle.graph.specs.Walk.{Ending, delivered, dropped, exhausted, Course, endsBy, crossing, walkOf}
+use Rattle.graph.specs.Entries.{onward}
+use Rattle.graph.specs.Walk.{Ending, delivered, dropped, exhausted, Course, endsBy, crossing}
 use Rattle.graph.proofs.Moves.{Leadless, walk-delivered, walk-exhausted, walk-lost, walk-on, walk-turns}
 use Rattle.graph.proofs.Moves.{around-lost, around-drops, around-on}
-use Rattle.net.specs.Refusals.{accepted}
 use Rattle.net.specs.Rows.{Rows, networkOf}
 use Rattle.net.specs.Failure.{fails}
-use Rattle.net.specs.inner.Overwritten.{overwritten}
 use Rattle.net.specs.declared.interface.Node.{Node}
-use Rattle.net.proofs.Overwrite.{over-none, over-first, over-start}
+use Rattle.net.proofs.Overwrite.{over-none, over-first}
 use Rattle.tables.specs.Lent.{LentTables}
-use Rattle.walk.specs.Lent.{hopAt, tablesFor}
-use Rattle.walk.specs.Walk.{endingNumber, courseOf}
+use Rattle.walk.specs.Lent.{hopAt}
+use Rattle.walk.specs.Walk.{endingNumber}
 use Rattle.walk.specs.inner.Ground.{Ground}
 use Rattle.walk.specs.inner.Moves.{lostEnding, movedOn, courseFrom, courseAround, Went, WentFrom}
 use Rattle.walk.specs.declared.question.Question.{Question}

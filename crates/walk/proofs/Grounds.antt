@@ -1,7 +1,7 @@
 -- Where a packet stands: what the look-up's answer tells there. An answer that leads on names an interface of the network that leaves the
 -- node and enters the answer's node; it has its row in both tables; and the bytes read in them are the entries of the lent tables.
 use Prim.Native.Nat.{ℕ, _+_, _*_, _^_, _<_, _≤_}
-use mathlib.Core.Path.{_≡_, sym, ap, _∙_}
+use mathlib.Core.Path.{_≡_, sym, _∙_}
 use mathlib.Core.Logic.{_≢_}
 use mathlib.Core.List.{List}
 use native.Mathlib.Omega.{arith}
@@ -9,12 +9,11 @@ use lib.ListN.{length, getD}
 use mir.Syntax.{w64}
 use mir.Val.{Fits}
 use Rattle.graph.specs.Network.{Network, tail, head}
-use Rattle.graph.specs.Entries.{Hop, onward}
+use Rattle.graph.specs.Entries.{onward}
 use Rattle.graph.specs.Walk.{Tables}
 use Rattle.graph.proofs.Moves.{Leadless}
 use Rattle.net.specs.Limits.{mostNodes}
 use Rattle.net.specs.Rows.{Rows, networkOf}
-use Rattle.net.specs.Check.{Accepted}
 use Rattle.net.specs.declared.interface.Interface.{Interface}
 use Rattle.net.specs.declared.interface.Node.{Node}
 use Rattle.tables.specs.Lent.{LentTables}

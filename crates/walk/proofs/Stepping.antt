@@ -1,7 +1,7 @@
 -- The step by the tests that the code makes: past the failed link, at the node, and where it is asked.
 use Prim.Native.Nat.{ℕ, _+_, _*_}
 use mathlib.Core.Bool.{true, false}
-use mathlib.Core.Path.{_≡_, refl, sym, ap, _∙_}
+use mathlib.Core.Path.{_≡_}
 use mathlib.Core.Logic.{_≢_}
 use mathlib.Core.List.{List}
 use borrow.Author.Tests.{eq-eqb, ne-eqb}
@@ -21,7 +21,6 @@ use Rattle.walk.specs.inner.Steps.{stepAround}
 use Rattle.walk.specs.declared.question.Question.{Question}
 use Rattle.walk.specs.declared.steps.Asked.{Asked}
 use Rattle.walk.specs.declared.steps.Asked.the-variants.{Start, Arrival}
-use Rattle.walk.specs.declared.steps.Stepped.{Stepped}
 use Rattle.walk.specs.declared.steps.Stepped.the-variants.{Delivered, NothingToFollow, Dropped, Next}
 use Rattle.walk.proofs.Grounds.{backwarding-read}
 

@@ -11,7 +11,6 @@ use Rattle.net.specs.Refusals.{accepted, interfaceNumber, nodeNumber}
 use Rattle.net.specs.Rows.{Rows, networkOf}
 use Rattle.net.specs.Check.{firstNumber}
 use Rattle.net.specs.Failure.{fails, failureNumber}
-use Rattle.net.specs.declared.check.Verdict.{Verdict}
 use Rattle.tables.specs.Lent.{LentTables}
 use Rattle.walk.specs.Lent.{tablesFor, lentVerdict}
 use Rattle.walk.specs.declared.question.Question.{Question}

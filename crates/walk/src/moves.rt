@@ -3,7 +3,6 @@
 // no more (a walk is made 64,480 times in a report), and promise their walk for every network and tables that this belongs to.
 ghost use mathlib.Core.Path.{_≡_};
 ghost use Prim.Native.Nat.{_+_, _*_};
-ghost use lib.ListN.{length};
 ghost use Rattle.graph.specs.Network.{tail};
 ghost use Rattle.net.specs.Rows.{networkOf};
 ghost use Rattle.walk.specs.Walk.{endingNumber, courseOf};

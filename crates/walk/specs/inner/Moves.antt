@@ -4,7 +4,7 @@ use mathlib.Core.Bool.{Bool, true, false}
 use mathlib.Core.Path.{_≡_}
 use mathlib.Core.List.{List, map}
 use lib.ListN.{length}
-use Rattle.graph.specs.Network.{Network, head, tail}
+use Rattle.graph.specs.Network.{Network, head}
 use Rattle.graph.specs.Path.{visits}
 use Rattle.graph.specs.Walk.{Ending, unrouted, dropped, astray, Course, around, goesOn, walkFrom, walkOn}
 use Rattle.net.specs.Rows.{Rows, networkOf}

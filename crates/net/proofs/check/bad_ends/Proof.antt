@@ -1,6 +1,6 @@
 -- `bad_ends` makes the three tests in the order of `badEnds`.
 use Rattle.net.specs.Check.{badEnds}
-use borrow.Author.Tests.{le-leb, lt-leb, lt-ltb, le-ltb, eq-eqb, ne-eqb}
+use borrow.Author.Tests.{le-leb, lt-leb}
 use Rattle.net.proofs.check.bad_ends.Statement.{statement}
 use Rattle.net.proofs.check.bad_ends.Tie as tie
 

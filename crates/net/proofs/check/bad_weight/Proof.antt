@@ -1,6 +1,6 @@
 -- `bad_weight` makes the two tests in the order of `badWeight`.
 use Rattle.net.specs.Check.{badWeight}
-use borrow.Author.Tests.{le-leb, lt-leb, lt-ltb, le-ltb, eq-eqb, ne-eqb}
+use borrow.Author.Tests.{eq-eqb, ne-eqb}
 use Rattle.net.proofs.check.bad_weight.Statement.{statement}
 use Rattle.net.proofs.check.bad_weight.Tie as tie
 

@@ -1,6 +1,6 @@
 -- `comes_after` makes the three tests in the order of `comesAfter`.
 use Rattle.net.specs.Check.{comesAfter}
-use borrow.Author.Tests.{le-leb, lt-leb, lt-ltb, le-ltb, eq-eqb, ne-eqb}
+use borrow.Author.Tests.{lt-ltb, le-ltb, eq-eqb, ne-eqb}
 use Rattle.net.proofs.check.comes_after.Statement.{statement}
 use Rattle.net.proofs.check.comes_after.Tie as tie
 

@@ -1,5 +1,4 @@
 -- On arrival the ending is that on arrival, else that at the start.
-use mathlib.Core.Path.{sym}
 use Rattle.walk.specs.Walk.{endingNumber}
 use Rattle.walk.specs.inner.Moves.{lostEnding}
 use Rattle.walk.proofs.moves.lost_ending.Statement.{statement}

@@ -1,5 +1,5 @@
 -- The step at a node: at the destination it is delivered; else the entry is looked up, and its link is crossed or turned from.
-use mathlib.Core.Path.{_≡_, sym, _∙_}
+use mathlib.Core.Path.{sym, _∙_}
 use mathlib.Core.Logic.{_≢_}
 use borrow.Author.Needs.{needs}
 use Rattle.net.specs.declared.interface.Interface.{Interface}

@@ -1,5 +1,5 @@
 -- `step_number` makes the tests in the order of `stepNumber`.
-use mathlib.Core.Path.{sym, _∙_}
+use mathlib.Core.Path.{sym}
 use borrow.Author.Needs.{needs}
 use borrow.Author.Tests.{le-leb, lt-leb}
 use Rattle.net.proofs.Verdicts.{number-first, number-second}

@@ -1,7 +1,6 @@
 -- One verdict and one branch. Where nothing is refused, network, question and tables are as the walk asks, and what it made is the answer.
-use Prim.Native.Nat.{_*_, _<_}
-use mathlib.Core.Path.{_≡_, refl, sym, ap, _∙_}
-use native.Mathlib.Omega.{arith}
+use Prim.Native.Nat.{_<_}
+use mathlib.Core.Path.{_≡_, refl}
 use borrow.Author.Needs.{needs}
 use lib.ListN.{length}
 use Rattle.net.specs.Refusals.{accepted}

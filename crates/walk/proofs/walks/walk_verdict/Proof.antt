@@ -1,5 +1,5 @@
 -- The refusals of network, question and tables come first, then the trace is held against the hop limit.
-use mathlib.Core.Path.{_≡_, sym, ap, _∙_}
+use mathlib.Core.Path.{_≡_, ap, _∙_}
 use borrow.Author.Needs.{needs}
 use lib.ListN.{length}
 use Rattle.net.specs.Rows.{Rows}
