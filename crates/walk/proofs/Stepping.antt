@@ -24,6 +24,16 @@ use Rattle.walk.specs.declared.steps.Asked.the-variants.{Start, Arrival}
 use Rattle.walk.specs.declared.steps.Stepped.the-variants.{Delivered, NothingToFollow, Dropped, Next}
 use Rattle.walk.proofs.Grounds.{backwarding-read}
 
+-- away from the destination, with an entry that leads to no interface
+pub step-lost : (R : Rows) (T : LentTables) (question : Question) (i : ℕ) → i ≢ question .destination .0 → {entry : Hop} → Leadless entry
+    → NothingToFollow ≡ stepAt R T question i entry
+unfolding stepAt told
+step-lost R T question i away l =
+    rw (
+      ne-eqb i (question .destination .0) away,
+      step-nothing (fails (question .failure)) (tablesFor R T (question .destination .0) .backwarding) l,
+    )
+
 module _ {n : ℕ} {map forwarding backwarding : List ℕ} (on : Ground n map forwarding backwarding) (question : Question) (i : ℕ) where
   abbrev R : Rows
   R = on .rows
@@ -60,22 +70,17 @@ module _ {n : ℕ} {map forwarding backwarding : List ℕ} (on : Ground n map fo
   unfolding stepAt
   step-delivered entry e = rw (eq-eqb i d e)
 
-  module _ (away : i ≢ d) where
-    pub step-lost : (entry : Hop) → Leadless entry → NothingToFollow ≡ stepAt R T question i entry
+  module _ (away : i ≢ d) (byte : ℕ) (f : Interface) (leads : hopAt R i byte ≡ onward (f .0)) where
+    pub step-turns : fails (question .failure) (link (f .0)) ≡ true
+        → stepAround R T question (f .0) ≡ stepAt R T question i (hopAt R i byte)
+    unfolding stepAt stepAround
+    step-turns down = rw (ne-eqb i d away, leads, step-around (fails (question .failure)) (f .0) (tablesFor R T d .backwarding) down)
+
+    pub step-crosses : (v : Node) → v .0 ≡ head (networkOf R) (f .0) → fails (question .failure) (link (f .0)) ≡ false
+        → Next v f ≡ stepAt R T question i (hopAt R i byte)
     unfolding stepAt told
-    step-lost entry l = rw (ne-eqb i d away, step-nothing (fails (question .failure)) (tablesFor R T d .backwarding) l)
-
-    module _ (byte : ℕ) (f : Interface) (leads : hopAt R i byte ≡ onward (f .0)) where
-      pub step-turns : fails (question .failure) (link (f .0)) ≡ true
-          → stepAround R T question (f .0) ≡ stepAt R T question i (hopAt R i byte)
-      unfolding stepAt stepAround
-      step-turns down = rw (ne-eqb i d away, leads, step-around (fails (question .failure)) (f .0) (tablesFor R T d .backwarding) down)
-
-      pub step-crosses : (v : Node) → v .0 ≡ head (networkOf R) (f .0) → fails (question .failure) (link (f .0)) ≡ false
-          → Next v f ≡ stepAt R T question i (hopAt R i byte)
-      unfolding stepAt told
-      step-crosses v enters up =
-          rw (ne-eqb i d away, leads, step-along (fails (question .failure)) (f .0) (tablesFor R T d .backwarding) up) (crossed v f enters)
+    step-crosses v enters up =
+        rw (ne-eqb i d away, leads, step-along (fails (question .failure)) (f .0) (tablesFor R T d .backwarding) up) (crossed v f enters)
 
 -- the step where it is asked
 module _ (R : Rows) (T : LentTables) (asked : Asked) (question : Question) where

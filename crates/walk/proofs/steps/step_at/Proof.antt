@@ -49,7 +49,7 @@ enum-told c = search needs
 returns-2 : tie.Need-returns-2
 returns-2 c on =
     let start = c .before .before .before .before .before .before .before .before .before in
-    step-lost on (start .args .question) (start .args .node .0) (c .before .before .before .if1 .left) _
+    step-lost (on .rows) (on .tables) (start .args .question) (start .args .node .0) (c .before .before .before .if1 .left)
     (grounds.absent on _ _ (c .before .before .look-up .ensures (grounds.look-up-at on _ (start .pre .node))) (c .enum-told .given .1))
 
 blocked-requires : tie.Need-blocked-requires
