@@ -14,7 +14,7 @@ use Rattle.graph.specs.Network.{Network, WellFormed, link, reverse, tail
 use Rattle.graph.specs.Path.{Chain, Path, Over, both, All, But}
 use Rattle.graph.specs.Path.{Each, Each.none as each-none, Each.both as each-both}
 use Rattle.graph.specs.Entries.{Hop, onward, nowhere, Entry, Free, Aside}
-use Rattle.graph.specs.Walk.{Tables, around, stepBy, Ending, delivered, unrouted, dropped, exhausted, astray, endsBy, crossing}
+use Rattle.graph.specs.Walk.{Tables, around, stepBy, Ending, delivered, unrouted, dropped, exhausted, endsBy, crossing}
 use Rattle.graph.specs.Walk.{goesOn, walkFrom}
 use Rattle.graph.specs.Demand3.{BuiltEntries, Works}
 use Rattle.graph.specs.Later.{RightEntries, LeavesIn}
@@ -71,7 +71,6 @@ laststep delivered = 0
 laststep unrouted = 1
 laststep dropped = 1
 laststep exhausted = 1
-laststep astray = 1
 
 module _ {N : Network} {failed : ℕ → Bool} {T : Tables} {d : ℕ} where
   -- with limit enough the walk is that

@@ -4,4 +4,5 @@ pub mod Entries
 pub mod Walk
 pub mod Set
 pub mod Demand3
+pub mod Arrival
 pub mod Later

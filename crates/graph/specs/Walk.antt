@@ -37,13 +37,12 @@ stepBy failed backwarding here = nothing
 stepBy failed backwarding nowhere = nothing
 stepBy failed backwarding (onward f) = elim (failed (link f)) [ true ↦ around failed (backwarding f) | false ↦ crosses f ]
 
--- "Endings: 0 delivered; 1 no entry at the start; 2 dropped at the failed link; 3 hop limit used; 4 no entry on arrival."
+-- "Endings: 0 delivered; 1 no entry at the start; 2 dropped at the failed link; 3 hop limit used"; 4 is gone (document 02, L7).
 pub data Ending : Type 0 where
   delivered : Ending
   unrouted : Ending
   dropped : Ending
   exhausted : Ending
-  astray : Ending
 
 -- the interfaces crossed, in order, and how the walk ended
 pub record Course : Type 0 where
@@ -63,19 +62,20 @@ goesOn next lost nothing = endsBy lost
 goesOn next lost drops = endsBy dropped
 
 -- "At each node, in this order: destination reached; hop limit used up; the step." The walk stands at node i with the entry that
--- it reads there, and with the ending that it has if that entry leads nowhere.
+-- it reads there, and with the ending that it has if that entry leads nowhere: "A walk over other tables that finds nothing on arrival
+-- is told as ending 2" (document 02, L7).
 unfoldable pub walkFrom : Network → (ℕ → Bool) → Tables → ℕ → ℕ → ℕ → Hop → Ending → Course
 walkFrom N failed T d zero i entry lost = elim (eqb i d) [ true ↦ endsBy delivered | false ↦ endsBy exhausted ]
 walkFrom N failed T d (suc limit) i entry lost =
     elim (eqb i d) [
       | true ↦ endsBy delivered
       | false ↦
-          goesOn (λ f. walkFrom N failed T d limit (head N f) (T .forwarding f) astray) lost (stepBy failed (T .backwarding) entry)
+          goesOn (λ f. walkFrom N failed T d limit (head N f) (T .forwarding f) dropped) lost (stepBy failed (T .backwarding) entry)
     ]
 
 -- the walk from an arrival over interface f: it goes on with the forwarding entry of that interface
 abbrev pub walkOn : Network → (ℕ → Bool) → Tables → ℕ → ℕ → ℕ → Course
-walkOn N failed T d limit f = walkFrom N failed T d limit (head N f) (T .forwarding f) astray
+walkOn N failed T d limit f = walkFrom N failed T d limit (head N f) (T .forwarding f) dropped
 
 -- the walk from a source: it starts with the routing entry
 unfoldable pub walkOf : Network → (ℕ → Bool) → Tables → ℕ → ℕ → ℕ → Course

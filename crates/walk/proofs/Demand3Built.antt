@@ -14,7 +14,7 @@ use borrow.Author.Tests.{lt-leb}
 use lib.ListN.{length, drop, length-map}
 use Rattle.graph.specs.Network.{Network, head, link}
 use Rattle.graph.specs.Path.{Over, Over.none as over-none, visits}
-use Rattle.graph.specs.Walk.{Tables, failedBy, walkOf, Ending, delivered, unrouted, dropped, exhausted, astray, Course}
+use Rattle.graph.specs.Walk.{Tables, failedBy, walkOf, Ending, delivered, unrouted, dropped, exhausted, Course}
 use Rattle.graph.specs.Demand3.{Works, Demand3 as CourseDemand3}
 use Rattle.graph.proofs.Demand3.{demand-3 as course-demand-3}
 use Rattle.net.specs.Refusals.{accepted, tableLength}
@@ -59,7 +59,6 @@ number-delivered delivered q = refl
 number-delivered unrouted q = absurd (omega arith)
 number-delivered dropped q = absurd (omega arith)
 number-delivered exhausted q = absurd (omega arith)
-number-delivered astray q = absurd (omega arith)
 
 -- a walk's question that is taken
 question-fine : (n links s : ℕ) (question : Question) → AtMostOne links (question .failure) → s < n → question .destination .0 < n

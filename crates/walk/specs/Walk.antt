@@ -4,7 +4,7 @@ use mathlib.Core.List.{List, _++_}
 use lib.ListN.{length, drop}
 use lib.Dec.{eqb, leb}
 use Rattle.graph.specs.Path.{visits}
-use Rattle.graph.specs.Walk.{Ending, delivered, unrouted, dropped, exhausted, astray, Course, walkOf}
+use Rattle.graph.specs.Walk.{Ending, delivered, unrouted, dropped, exhausted, Course, walkOf}
 use Rattle.net.specs.Choice.{pick}
 use Rattle.net.specs.Refusals.{accepted, nodeNumber, traceLength}
 use Rattle.net.specs.Rows.{Rows, networkOf}
@@ -16,13 +16,12 @@ use Rattle.walk.specs.Lent.{tablesFor, lentVerdict}
 use Rattle.walk.specs.declared.question.Question.{Question}
 use Rattle.walk.specs.declared.walks.Walked.{Walked}
 
--- "Endings: 0 delivered; 1 no entry at the start; 2 dropped at the failed link; 3 hop limit used; 4 no entry on arrival."
+-- "Endings: 0 delivered; 1 no entry at the start; 2 dropped at the failed link; 3 hop limit used"; 4 is gone (document 02, L7).
 unfoldable pub endingNumber : Ending → ℕ
 endingNumber delivered = 0
 endingNumber unrouted = 1
 endingNumber dropped = 2
 endingNumber exhausted = 3
-endingNumber astray = 4
 
 -- 12, 11 (source, then destination): the first that holds, or 0
 unfoldable pub walkNumber : ℕ → ℕ → ℕ → Question → ℕ

@@ -16,7 +16,7 @@ use net::Interface;
 use net::Node;
 use net::blocked;
 
-// Document 01's endings.
+// The endings of document 01, without 4 (document 02, L7).
 pub const DELIVERED: u8 = 0;
 
 pub const UNROUTED: u8 = 1;
@@ -24,8 +24,6 @@ pub const UNROUTED: u8 = 1;
 pub const DROPPED: u8 = 2;
 
 pub const EXHAUSTED: u8 = 3;
-
-pub const ASTRAY: u8 = 4;
 
 // A packet on its way: where it stands, the entry that it reads there, the hops left and made, and whether it arrived over a link.
 pub struct Packet {
@@ -42,12 +40,12 @@ pub struct Outcome {
     pub hops: usize,
 }
 
-// The ending where there is nothing to follow.
+// The ending where there is nothing to follow: on arrival that of a packet dropped.
 fn lost_ending(arrived: bool) -> u8
     ensures { λ r. ⌜ r ≡ endingNumber (lostEnding arrived) ⌝ }
 {
     if arrived {
-        return ASTRAY;
+        return DROPPED;
     }
     UNROUTED
 }

@@ -6,7 +6,7 @@ use mathlib.Core.List.{List, map}
 use lib.ListN.{length}
 use Rattle.graph.specs.Network.{Network, head}
 use Rattle.graph.specs.Path.{visits}
-use Rattle.graph.specs.Walk.{Ending, unrouted, dropped, astray, Course, around, goesOn, walkFrom, walkOn}
+use Rattle.graph.specs.Walk.{Ending, unrouted, dropped, Course, around, goesOn, walkFrom, walkOn}
 use Rattle.net.specs.Rows.{Rows, networkOf}
 use Rattle.net.specs.Failure.{fails}
 use Rattle.net.specs.inner.Overwritten.{overwritten}
@@ -20,10 +20,10 @@ use Rattle.walk.specs.declared.question.Question.{Question}
 use Rattle.walk.specs.declared.moves.Packet.{Packet}
 use Rattle.walk.specs.declared.moves.Outcome.{Outcome}
 
--- the ending where nothing is to be followed: at the start, or on arrival
+-- the ending where nothing is to be followed: at the start, or "on arrival" (document 02, L7)
 unfoldable pub lostEnding : Bool → Ending
 lostEnding false = unrouted
-lostEnding true = astray
+lostEnding true = dropped
 
 -- the packet after one hop more
 unfoldable pub movedOn : Packet → Node → ℕ → Packet
