@@ -47,7 +47,7 @@ unfolding failedOf failedBy fails
 fails-same NoFailure = refl
 fails-same (One l) = refl
 
-failure-fine : (links : ℕ) (failure : Failure) → AtMostOne links failure → failureNumber links failure ≡ accepted
+pub failure-fine : (links : ℕ) (failure : Failure) → AtMostOne links failure → failureNumber links failure ≡ accepted
 unfolding failureNumber
 failure-fine links NoFailure one = refl
 failure-fine links (One l) one = simp (lt-leb links (l .0) one)
@@ -73,14 +73,14 @@ module _ {R : Rows} {before after : LentTables} {built : Verdict} (answer : Buil
   all-fine : buildVerdict R before .number ≡ accepted
   all-fine = sym (ap number-of (answer .verdict)) ∙ fine
 
-  filled : Built (networkOf R) before after
+  pub filled : Built (networkOf R) before after
   filled = answer .built fine
 
   pub built-network : Accepted R
   unfolding buildVerdict
   built-network = check-accepts R (first-accepted _ _ all-fine)
 
-  built-lengths : LongEnough (R .nodes) (length (R .low)) after
+  pub built-lengths : LongEnough (R .nodes) (length (R .low)) after
   unfolding buildVerdict
   built-lengths =
       let long = tables-long (passed-test _ tableLength (λ z. omega arith) (second-accepted _ _ all-fine)) in

@@ -9,4 +9,5 @@ pub mod Courses
 pub mod Stepping
 pub mod Built
 pub mod Demand3Built
+pub mod ArrivalBuilt
 pub mod Determined

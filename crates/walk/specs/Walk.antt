@@ -1,5 +1,6 @@
 -- The walk (document 01, "Steps and walks"), over the tables as they are lent: graph's walk, told by its numbers.
 use Prim.Native.Nat.{ℕ}
+use mathlib.Core.Bool.{Bool}
 use mathlib.Core.List.{List, _++_}
 use lib.ListN.{length, drop}
 use lib.Dec.{eqb, leb}
@@ -35,11 +36,13 @@ unfoldable pub walkVerdict : Rows → LentTables → ℕ → Question → ℕ �
 walkVerdict R T s question limit trace =
     orElse (lentVerdict R T (walkNumber (R .nodes) (length (R .low)) s question)) (refusedIf (leb (length trace) limit) traceLength)
 
--- the walk over the lent tables
+-- the walk over the lent tables from s to d, whatever links have failed
+abbrev pub courseUnder : (ℕ → Bool) → Rows → LentTables → ℕ → ℕ → ℕ → Course
+courseUnder failed R T s d limit = walkOf (networkOf R) failed (tablesFor R T d) d limit s
+
+-- and under the failure that is asked
 unfoldable pub courseOf : Rows → LentTables → ℕ → Question → ℕ → Course
-courseOf R T s question limit =
-    let d = question .destination .0 in
-    walkOf (networkOf R) (fails (question .failure)) (tablesFor R T d) d limit s
+courseOf R T s question limit = courseUnder (fails (question .failure)) R T s (question .destination .0) limit
 
 -- "A walk's answer is its ending, its hop count and, in the trace, hops + 1 nodes, source first."
 unfoldable pub walkedBy : Verdict → Course → Walked
