@@ -459,15 +459,13 @@ fn broken(
     if fits { None } else { Some("ends wrongly or too late") }
 }
 
-fn ending_name(ending: u8) -> &'static str {
-    match ending {
-        walk::DELIVERED => "  such walks, ending 0",
-        walk::NO_ENTRY_AT_START => "  such walks, ending 1",
-        walk::DROPPED => "  such walks, ending 2",
-        walk::LIMIT_USED => "  such walks, ending 3",
-        _ => "  such walks, ending 4",
-    }
-}
+/// How walks are counted by their ending.
+const BY_ENDING: [&str; 4] = [
+    "  such walks, ending 0",
+    "  such walks, ending 1",
+    "  such walks, ending 2",
+    "  such walks, ending 3",
+];
 
 fn walk_all(tally: &mut Tally, network: &Network) {
     let Ok(graph) = network.graph() else {
@@ -500,7 +498,7 @@ fn walk_all(tally: &mut Tally, network: &Network) {
                 let other = walk::follow(&graph, own_link_alone, source, d, failed, u8::MAX);
                 let same = (other.ending, &other.nodes) == (walk.ending, &walk.nodes);
                 tally.check("walks as with the own link alone taken out", same, place);
-                tally.count(ending_name(walk.ending));
+                tally.count(BY_ENDING[usize::from(walk.ending)]);
                 if walk.hops() + 3 == 2 * graph.nodes {
                     tally.count("  such walks, as long as allowed");
                 }

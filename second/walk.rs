@@ -108,7 +108,6 @@ pub const DELIVERED: u8 = 0;
 pub const NO_ENTRY_AT_START: u8 = 1;
 pub const DROPPED: u8 = 2;
 pub const LIMIT_USED: u8 = 3;
-pub const NO_ENTRY_ON_ARRIVAL: u8 = 4;
 
 pub struct Walk {
     pub ending: u8,
@@ -141,24 +140,22 @@ pub fn follow(
             walk.ending = LIMIT_USED;
             break;
         }
-        match take(graph, tables, at, d, failed) {
-            Step::Next { node: next, interface } => {
+        match (take(graph, tables, at, d, failed), at) {
+            (Step::Next { node: next, interface }, _) => {
                 walk.nodes.push(next as u8);
                 node = next;
                 at = At::Arrival(interface);
             }
-            Step::Nothing => {
-                walk.ending = match at {
-                    At::Start(_) => NO_ENTRY_AT_START,
-                    At::Arrival(_) => NO_ENTRY_ON_ARRIVAL,
-                };
+            (Step::Nothing, At::Start(_)) => {
+                walk.ending = NO_ENTRY_AT_START;
                 break;
             }
-            Step::Dropped => {
+            // Request L7: nothing to follow on arrival is told as dropped.
+            (Step::Nothing, At::Arrival(_)) | (Step::Dropped, _) => {
                 walk.ending = DROPPED;
                 break;
             }
-            Step::Delivered => unreachable!("a step away from its destination"),
+            (Step::Delivered, _) => unreachable!("a step away from its destination"),
         }
     }
     walk
