@@ -1,17 +1,18 @@
 //! Sub-command `selftest`: this program held against itself and against what
 //! document 01 says of it, before it is held against the proved program.
 //!
-//! Four parts: the bench sheet and the report that document 01 prints; batches
-//! whose lengths are wrong, which must not pass, and batches that cannot tell
-//! the rules for backwarding entries apart; the two ways to best paths against
-//! each other on small networks full of equal paths; demand 3 on networks of
-//! every size. Nothing is read, and every run does the same. It prints how
-//! often each thing was checked, and up to 20 faults.
+//! Four parts: the bench sheet, the report that document 01 prints, and rows
+//! on arrivals that find nothing; batches whose lengths are wrong, which must
+//! not pass, and batches that cannot tell the rules for backwarding entries
+//! apart; the two ways to best paths against each other on small networks full
+//! of equal paths; demand 3 on networks of every size. Nothing is read, and
+//! every run does the same. It prints how often each thing was checked, and up
+//! to 20 faults.
 
 use crate::network::{Graph, Network};
 use crate::paths::{by_tree, by_trial, every_chain, set_of, sum_of, Best, Method};
-use crate::tables::{self, Lent, Tables};
-use crate::walk::{self, Failure, Step, Walk};
+use crate::tables::{self, Lent, Tables, NO_PATH};
+use crate::walk::{self, Asked, Failure, Step, Walk};
 use crate::{plan, records, report, rules};
 use std::collections::BTreeMap;
 
@@ -81,10 +82,10 @@ struct Built {
 impl Built {
     fn new(stored: &[u8], method: Method) -> Built {
         let Ok(network) = plan::read(stored) else {
-            panic!("a plan of the bench sheet is refused");
+            panic!("a plan of these rows is refused");
         };
         let Ok(graph) = network.graph() else {
-            panic!("a network of the bench sheet is refused");
+            panic!("a network of these rows is refused");
         };
         let tables = tables::build(&mut Best::new(&graph, method));
         Built { network, graph, tables, method }
@@ -98,30 +99,48 @@ impl Built {
         self.tables.routing[i * self.graph.nodes + d]
     }
 
+    /// Where an interface's entry for d stands, in either of its tables.
+    fn place(&self, from: usize, to: usize, d: usize) -> usize {
+        self.interface(from, to) * self.graph.nodes + d
+    }
+
     fn forwarding(&self, j: usize, i: usize, d: usize) -> u8 {
-        self.tables.forwarding[self.interface(j, i) * self.graph.nodes + d]
+        self.tables.forwarding[self.place(j, i, d)]
     }
 
     fn backwarding(&self, i: usize, j: usize, d: usize) -> u8 {
-        self.tables.backwarding[self.interface(i, j) * self.graph.nodes + d]
+        self.tables.backwarding[self.place(i, j, d)]
     }
 
     fn keys(&self, j: usize, i: usize, d: usize) -> u64 {
         tables::key_links(&mut Best::new(&self.graph, self.method), self.interface(j, i))[d]
     }
 
-    /// Ending and trace, asked through the entry that checks everything.
-    fn walk(&self, source: u64, d: u64, failed: Option<(usize, usize)>, limit: u8) -> (u8, Vec<u8>) {
-        let failure = match failed {
+    fn failure(&self, failed: Option<(usize, usize)>) -> Failure {
+        match failed {
             Some((low, high)) => Failure::Link(self.graph.link(low, high).expect("a link") as u64),
             None => Failure::None,
-        };
+        }
+    }
+
+    /// Ending and trace, asked through the entry that checks everything.
+    fn walk(&self, source: u64, d: u64, failed: Option<(usize, usize)>, limit: u8) -> (u8, Vec<u8>) {
         let mut trace = vec![0xEE; usize::from(limit) + 1];
-        let lent = self.tables.lent();
+        let (lent, failure) = (self.tables.lent(), self.failure(failed));
         match walk::walk(&self.network, lent, source, d, failure, limit, &mut trace) {
             Ok(walk) => (walk.ending, trace[..=walk.hops()].to_vec()),
-            Err(refusal) => panic!("a walk of the bench sheet: refusal {}", refusal.number),
+            Err(refusal) => panic!("a walk of these rows: refusal {}", refusal.number),
         }
+    }
+
+    /// Whether a step says that there is nothing to follow, asked the same way.
+    fn nothing(&self, asked: Asked, d: u64, failed: Option<(usize, usize)>) -> bool {
+        let step = walk::step(&self.network, self.tables.lent(), asked, d, self.failure(failed));
+        matches!(step, Ok(Step::Nothing))
+    }
+
+    fn arrival(&self, j: usize, i: usize) -> Asked {
+        Asked::Arrival(self.interface(j, i) as u64)
     }
 }
 
@@ -180,6 +199,74 @@ fn bench_sheet(tally: &mut Tally) {
     row("report of a refused plan", report::text(&[0]) == "refused 3 at 0\n");
 }
 
+// ---------------------------------------------------- nothing on arrival
+
+/// Three nodes in a row, and three of which the last has no link.
+const CHAIN: [u8; 8] = [3, 2, 0, 1, 1, 1, 1, 1];
+const APART: [u8; 5] = [3, 1, 0, 1, 1];
+
+/// The built tables of APART, byte by byte.
+const APART_ROUTING: [u8; 9] = [254, 1, 255, 0, 254, 255, 255, 255, 254];
+const APART_FORWARDING: [u8; 6] = [0, 254, 255, 254, 1, 255];
+const APART_BACKWARDING: [u8; 6] = [254, 255, 255, 255, 254, 255];
+
+/// Tells one row: its name, and whether it holds.
+type Row<'a> = &'a mut dyn FnMut(&str, bool);
+
+/// Nobody builds tables with such a gap, but they pass refusal 16.
+fn gap_on_arrival(row: Row, mut chain: Built) {
+    row("chain, routing", chain.routing(0, 2) == 1);
+    row("chain, as built", chain.walk(0, 2, None, 64) == (0, vec![0, 1, 2]));
+    let gap = chain.place(0, 1, 2);
+    chain.tables.forwarding[gap] = NO_PATH;
+    row("gap", chain.walk(0, 2, None, 64) == (2, vec![0, 1]));
+    row("gap, limit 2", chain.walk(0, 2, None, 2) == (2, vec![0, 1]));
+    row("gap, limit 1", chain.walk(0, 2, None, 1) == (3, vec![0, 1]));
+    row("gap, limit 0", chain.walk(0, 2, None, 0) == (3, vec![0]));
+    row("gap, 1-2 failed", chain.walk(0, 2, Some((1, 2)), 64) == (2, vec![0, 1]));
+    row("gap, 0-1 failed", chain.walk(0, 2, Some((0, 1)), 64) == (2, vec![0]));
+    row("gap, to 1", chain.walk(0, 1, None, 64) == (0, vec![0, 1]));
+    row("gap, from 1", chain.walk(1, 2, None, 64) == (0, vec![1, 2]));
+    row("gap, step", chain.nothing(chain.arrival(0, 1), 2, None));
+    row("gap, step, 1-2 failed", chain.nothing(chain.arrival(0, 1), 2, Some((1, 2))));
+    chain.tables.routing[2] = NO_PATH;
+    row("gap at the start", chain.walk(0, 2, None, 64) == (1, vec![0]));
+    row("gap at the start, limit 0", chain.walk(0, 2, None, 0) == (3, vec![0]));
+}
+
+/// Node 1 cannot send to 2 and turns the packet back to 0.
+fn gap_after_turning(row: Row, mut chain: Built) {
+    let (turn, gap) = (chain.place(1, 2, 2), chain.place(1, 0, 2));
+    chain.tables.backwarding[turn] = 0;
+    chain.tables.forwarding[gap] = NO_PATH;
+    let failed = Some((1, 2));
+    row("turned", chain.walk(0, 2, failed, 64) == (2, vec![0, 1, 0]));
+    row("turned, limit 2", chain.walk(0, 2, failed, 2) == (3, vec![0, 1, 0]));
+    row("turned, step", chain.nothing(chain.arrival(1, 0), 2, failed));
+}
+
+/// Over built tables only a step can be asked on such an arrival.
+fn arrival_of_no_walk(row: Row, apart: Built) {
+    let bytes = [&apart.tables.routing[..], &apart.tables.forwarding, &apart.tables.backwarding];
+    row("apart, tables", bytes == [&APART_ROUTING[..], &APART_FORWARDING, &APART_BACKWARDING]);
+    row("apart, step on arrival", apart.nothing(apart.arrival(0, 1), 2, None));
+    row("apart, step at the start", apart.nothing(Asked::Start(0), 2, None));
+    row("apart, walk", apart.walk(0, 2, None, 64) == (1, vec![0]));
+}
+
+/// Request L7: a walk tells nothing to follow on arrival as ending 2, and a
+/// step says it as before.
+fn nothing_on_arrival(tally: &mut Tally) {
+    for (way, method) in WAYS {
+        let mut row = |name: &str, holds: bool| {
+            tally.check("rows on arrivals with no entry", holds, || format!("{name}, {way}"));
+        };
+        gap_on_arrival(&mut row, Built::new(&CHAIN, method));
+        gap_after_turning(&mut row, Built::new(&CHAIN, method));
+        arrival_of_no_walk(&mut row, Built::new(&APART, method));
+    }
+}
+
 // --------------------------------------------------------------- batches
 
 fn batches(tally: &mut Tally) {
@@ -216,7 +303,7 @@ fn other_rules(tally: &mut Tally) {
         let a = Built::new(&PLAN_A, method);
         let others = rules::others(&mut Best::new(&a.graph, method));
         // Node 1, which cannot send to 0 for 3, would send to 2 by either.
-        let place = a.interface(1, 0) * a.graph.nodes + 3;
+        let place = a.place(1, 0, 3);
         let holds = rules::count(&others, &a.tables.backwarding) == [4, 4, 1]
             && [others.own_link_alone[place], others.nearest_alone[place]] == [2, 2];
         tally.check("other rules on plan A", holds, || way.to_string());
@@ -519,7 +606,10 @@ pub fn run(output: &mut impl std::io::Write) -> Result<bool, String> {
         tell(output, &tally).map_err(|fault| fault.to_string())
     };
     let mut chance = Chance(0x5EED);
-    part(&mut bench_sheet)?;
+    part(&mut |tally| {
+        bench_sheet(tally);
+        nothing_on_arrival(tally);
+    })?;
     part(&mut |tally| {
         batches(tally);
         other_rules(tally);
