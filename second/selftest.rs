@@ -71,7 +71,7 @@ none delivered 12 dropped 0 hops 20 longest 3
 walks 72 delivered 72 dropped 0
 ";
 
-/// A network given by a good stored plan, and its tables by one method.
+/// A good network, and its tables by one method.
 struct Built {
     network: Network,
     graph: Graph,
@@ -84,8 +84,12 @@ impl Built {
         let Ok(network) = plan::read(stored) else {
             panic!("a plan of these rows is refused");
         };
+        Built::of(network, method)
+    }
+
+    fn of(network: Network, method: Method) -> Built {
         let Ok(graph) = network.graph() else {
-            panic!("a network of these rows is refused");
+            panic!("not a good network: {}", described(&network));
         };
         let tables = tables::build(&mut Best::new(&graph, method));
         Built { network, graph, tables, method }
@@ -554,35 +558,32 @@ const BY_ENDING: [&str; 4] = [
     "  such walks, ending 3",
 ];
 
-fn walk_all(tally: &mut Tally, network: &Network) {
-    let Ok(graph) = network.graph() else {
-        return tally.check("networks drawn are good", false, || described(network));
-    };
+fn walk_all(tally: &mut Tally, built: &Built) {
+    let Built { network, graph, tables, .. } = built;
     tally.count("networks walked");
-    let built = tables::build(&mut Best::new(&graph, by_tree));
-    let accepted = walk::figures(network, built.lent(), Failure::None).is_ok();
+    let accepted = walk::figures(network, tables.lent(), Failure::None).is_ok();
     tally.check("built tables are accepted", accepted, || described(network));
-    let others = rules::others(&mut Best::new(&graph, by_tree));
-    let own_link_alone = Lent { backwarding: &others.own_link_alone, ..built.lent() };
+    let others = rules::others(&mut Best::new(graph, by_tree));
+    let own_link_alone = Lent { backwarding: &others.own_link_alone, ..tables.lent() };
     for failed in std::iter::once(None).chain((0..graph.links.len()).map(Some)) {
-        let part = parts(&graph, failed);
+        let part = parts(graph, failed);
         for source in 0..graph.nodes {
             for d in 0..graph.nodes {
                 let place = || format!("{source} to {d}, failed {failed:?}, {}", described(network));
-                let walk = walk::follow(&graph, built.lent(), source, d, failed, u8::MAX);
+                let walk = walk::follow(graph, tables.lent(), source, d, failed, u8::MAX);
                 if source == d {
                     let stays = walk.ending == walk::DELIVERED && walk.hops() == 0;
                     tally.check("walks to the source itself", stays, place);
-                    let step = walk::take(&graph, built.lent(), walk::At::Start(d), d, failed);
+                    let step = walk::take(graph, tables.lent(), walk::At::Start(d), d, failed);
                     let done = matches!(step, Step::Delivered);
                     tally.check("steps at the destination", done, place);
                     continue;
                 }
                 let joined = part[source] == part[d];
-                let broken = broken(&graph, &walk, (source, d), failed, joined);
+                let broken = broken(graph, &walk, (source, d), failed, joined);
                 let told = || format!("{}, {:?}, {}", broken.unwrap_or(""), walk.nodes, place());
                 tally.check("walks that keep demand 3", broken.is_none(), told);
-                let other = walk::follow(&graph, own_link_alone, source, d, failed, u8::MAX);
+                let other = walk::follow(graph, own_link_alone, source, d, failed, u8::MAX);
                 let same = (other.ending, &other.nodes) == (walk.ending, &walk.nodes);
                 tally.check("walks as with the own link alone taken out", same, place);
                 tally.count(BY_ENDING[usize::from(walk.ending)]);
@@ -626,7 +627,7 @@ pub fn run(output: &mut impl std::io::Write) -> Result<bool, String> {
         for number in 0..WALKED_NETWORKS {
             let nodes = if number % 4 == 0 { 9 + chance.below(24) } else { 1 + chance.below(9) };
             let links = chance.below(3 * nodes);
-            walk_all(tally, &draw(&mut chance, nodes, links));
+            walk_all(tally, &Built::of(draw(&mut chance, nodes, links), by_tree));
         }
     })?;
     let verdict = if well { "selftest passed" } else { "selftest FAILED" };
