@@ -1,13 +1,14 @@
 //! Sub-command `selftest`: this program held against itself and against what
 //! document 01 says of it, before it is held against the proved program.
 //!
-//! Four parts: the bench sheet, the report that document 01 prints, and rows
+//! Five parts: the bench sheet, the report that document 01 prints, and rows
 //! on arrivals that find nothing; batches whose lengths are wrong, which must
 //! not pass, and batches that cannot tell the rules for backwarding entries
 //! apart; the two ways to best paths against each other on small networks full
-//! of equal paths; demand 3 on networks of every size. Nothing is read, and
-//! every run does the same. It prints how often each thing was checked, and up
-//! to 20 faults.
+//! of equal paths; demand 3 on networks of every size; and on the same ones,
+//! whatever links have failed, that every arrival finds an entry. Nothing is
+//! read, and every run does the same. It prints how often each thing was
+//! checked, and up to 20 faults.
 
 use crate::network::{Graph, Network};
 use crate::paths::{by_tree, by_trial, every_chain, set_of, sum_of, Best, Method};
@@ -30,11 +31,15 @@ struct Tally {
 }
 
 impl Tally {
-    fn count(&mut self, what: &'static str) {
+    fn add(&mut self, what: &'static str, more: usize) {
         match self.counts.iter_mut().find(|(known, _)| *known == what) {
-            Some((_, count)) => *count += 1,
-            None => self.counts.push((what, 1)),
+            Some((_, count)) => *count += more,
+            None => self.counts.push((what, more)),
         }
+    }
+
+    fn count(&mut self, what: &'static str) {
+        self.add(what, 1);
     }
 
     fn check(&mut self, what: &'static str, holds: bool, where_: impl FnOnce() -> String) {
@@ -376,6 +381,11 @@ fn draw(chance: &mut Chance, nodes: usize, links: usize) -> Network {
     }
 }
 
+/// A set with about one link in so many.
+fn draw_set(chance: &mut Chance, links: usize, one_in: usize) -> u64 {
+    (0..links).filter(|_| chance.below(one_in) == 0).fold(0, |set, link| set | 1 << link)
+}
+
 // ----------------------------------------------------- two ways to paths
 
 /// The node before each node in the tree of best paths from a root, none for
@@ -432,7 +442,7 @@ fn compare_ways(tally: &mut Tally, chance: &mut Chance, network: &Network) {
     let mut outs = vec![0];
     outs.extend((0..links).map(|link| 1 << link));
     for _ in 0..3 {
-        outs.push((0..links).filter(|_| chance.below(3) == 0).fold(0, |set, link| set | 1 << link));
+        outs.push(draw_set(chance, links, 3));
     }
     for out in outs {
         for from in 0..graph.nodes {
@@ -586,12 +596,132 @@ fn walk_all(tally: &mut Tally, built: &Built) {
                 let other = walk::follow(graph, own_link_alone, source, d, failed, u8::MAX);
                 let same = (other.ending, &other.nodes) == (walk.ending, &walk.nodes);
                 tally.check("walks as with the own link alone taken out", same, place);
+                let packet = send(built, source, d, failed.map_or(0, |link| 1 << link));
+                let last = usize::from(walk.nodes[walk.hops()]);
+                let same = (packet.node, packet.hops) == (last, walk.hops());
+                tally.check("walks that end where the packet does", same, place);
                 tally.count(BY_ENDING[usize::from(walk.ending)]);
                 if walk.hops() + 3 == 2 * graph.nodes {
                     tally.count("  such walks, as long as allowed");
                 }
             }
         }
+    }
+}
+
+// --------------------------------------------------- entries on arrival
+
+/// A packet that has come as far as it gets.
+struct Packet {
+    node: usize,
+    /// What it reads there.
+    entry: u8,
+    hops: usize,
+}
+
+const MOST_HOPS: usize = 255;
+
+/// A second opinion on walks: it reads the three tables by itself, asks
+/// walk.rs nothing, and any links may have failed.
+fn send(built: &Built, source: usize, d: usize, failed: u64) -> Packet {
+    let Built { graph, tables, .. } = built;
+    let works = |interface: &usize| failed >> (interface / 2) & 1 == 0;
+    let mut packet = Packet { node: source, entry: built.routing(source, d), hops: 0 };
+    while packet.node != d && packet.hops < MOST_HOPS {
+        let towards = |entry: u8| graph.interface(packet.node, usize::from(entry));
+        let Some(usual) = towards(packet.entry) else {
+            break;
+        };
+        let around = towards(tables.backwarding[usual * graph.nodes + d]);
+        let Some(crossed) = [Some(usual), around].into_iter().flatten().find(works) else {
+            break;
+        };
+        packet.node = graph.ends(crossed).1;
+        packet.entry = tables.forwarding[crossed * graph.nodes + d];
+        packet.hops += 1;
+    }
+    packet
+}
+
+/// Networks up to this many links have every pair of them failed.
+const EVERY_PAIR: usize = 16;
+
+/// Sets of failed links: none, all, each alone, pairs, and larger ones.
+fn failed_sets(chance: &mut Chance, links: usize) -> Vec<u64> {
+    let all = (0..links).fold(0, |set, link| set | 1 << link);
+    let mut sets = vec![0, all];
+    for link in 0..links {
+        let alone = 1 << link;
+        sets.push(alone);
+        let others: Vec<usize> =
+            if links <= EVERY_PAIR { (0..link).collect() } else { vec![chance.below(links)] };
+        sets.extend(others.iter().map(|other| alone | 1 << other));
+        let one_in = 2 + chance.below(8);
+        sets.push(draw_set(chance, links, one_in));
+    }
+    sets
+}
+
+/// Request L7: over built tables each arrival finds an entry, whatever links
+/// have failed, and a packet that is dropped stands at a failed link.
+fn send_all(tally: &mut Tally, built: &Built, failed: u64) {
+    let Built { network, graph, .. } = built;
+    for source in 0..graph.nodes {
+        for d in (0..graph.nodes).filter(|&d| d != source) {
+            let place = || format!("{source} to {d}, failed {failed:b}, {}", described(network));
+            let packet = send(built, source, d, failed);
+            tally.add("arrivals, whatever links have failed", packet.hops);
+            // It has left every arrival but the last by the entry found there.
+            let found = packet.hops == 0 || packet.entry != NO_PATH;
+            tally.check("packets that find an entry on each arrival", found, place);
+            if packet.node == d {
+                tally.count("  such packets, delivered");
+            } else if packet.hops == MOST_HOPS {
+                tally.count("  such packets, still going after 255 hops");
+            } else if packet.hops == 0 && packet.entry == NO_PATH {
+                tally.count("  such packets, no entry at the start");
+            } else {
+                let link = graph.link(packet.node, usize::from(packet.entry));
+                let at_failed = link.is_some_and(|link| failed >> link & 1 == 1);
+                tally.check("  such packets, dropped at a failed link", at_failed, place);
+                if packet.hops > 0 && failed.count_ones() > 1 {
+                    tally.count("  such packets, dropped on arrival, several links failed");
+                }
+            }
+        }
+    }
+}
+
+/// A step can be asked where no packet arrives. It finds nothing exactly if
+/// no links, failed or not, join the node to the destination.
+fn step_on_arrival(tally: &mut Tally, built: &Built, failed: Option<usize>) {
+    let Built { network, graph, tables, .. } = built;
+    let part = parts(graph, None);
+    for interface in 0..graph.interfaces() {
+        for d in 0..graph.nodes {
+            let step = walk::take(graph, tables.lent(), walk::At::Arrival(interface), d, failed);
+            let nothing = matches!(step, Step::Nothing);
+            let apart = part[graph.ends(interface).1] != part[d];
+            let place = || format!("over {interface} for {d}, failed {failed:?}, {}", described(network));
+            tally.check("steps on arrival, nothing exactly where apart", nothing == apart, place);
+            if nothing {
+                tally.count("  such steps, nothing to follow");
+            }
+        }
+    }
+}
+
+fn arrive_all(tally: &mut Tally, chance: &mut Chance, built: &Built) {
+    let links = built.graph.links.len();
+    for failed in failed_sets(chance, links) {
+        tally.count("sets of failed links");
+        if failed.count_ones() > 1 {
+            tally.count("  such sets, of several links");
+        }
+        send_all(tally, built, failed);
+    }
+    for failed in std::iter::once(None).chain((0..links).map(Some)) {
+        step_on_arrival(tally, built, failed);
     }
 }
 
@@ -623,11 +753,20 @@ pub fn run(output: &mut impl std::io::Write) -> Result<bool, String> {
             compare_ways(tally, &mut chance, &network);
         }
     })?;
+    let mut walked = Vec::new();
+    for number in 0..WALKED_NETWORKS {
+        let nodes = if number % 4 == 0 { 9 + chance.below(24) } else { 1 + chance.below(9) };
+        let links = chance.below(3 * nodes);
+        walked.push(Built::of(draw(&mut chance, nodes, links), by_tree));
+    }
     part(&mut |tally| {
-        for number in 0..WALKED_NETWORKS {
-            let nodes = if number % 4 == 0 { 9 + chance.below(24) } else { 1 + chance.below(9) };
-            let links = chance.below(3 * nodes);
-            walk_all(tally, &Built::of(draw(&mut chance, nodes, links), by_tree));
+        for built in &walked {
+            walk_all(tally, built);
+        }
+    })?;
+    part(&mut |tally| {
+        for built in &walked {
+            arrive_all(tally, &mut chance, built);
         }
     })?;
     let verdict = if well { "selftest passed" } else { "selftest FAILED" };
