@@ -340,6 +340,10 @@ fn wrong_in(chance: &mut Chance) -> usize {
     chance.pick(&[40, 40, 40, 40, 2])
 }
 
+fn failure_bytes(kind: u8, number: u64) -> Vec<u8> {
+    [&[kind][..], &eight(number)].concat()
+}
+
 /// A failure's bytes: none, the link ahead, any link, or no link at all.
 fn failure(
     chance: &mut Chance,
@@ -359,7 +363,7 @@ fn failure(
         }
         _ => (1, number(chance, net.links(), wrong_in, wrong)),
     };
-    [&[kind][..], &eight(number)].concat()
+    failure_bytes(kind, number)
 }
 
 /// What is wrong with a record, for the count of cases only.
@@ -388,7 +392,23 @@ fn lent(
     (tables, damage)
 }
 
-fn push_step(chance: &mut Chance, made: &mut Made, net: &Net, drawn: &Tables) {
+/// Where a step is asked: at a start node, or on arrival over an interface.
+const START: u8 = 0;
+const ARRIVAL: u8 = 1;
+
+fn push_step(
+    made: &mut Made,
+    case: &str,
+    (net, tables): (&Net, &Tables),
+    (kind, asked): (u8, u64),
+    d: u64,
+    failure: &[u8],
+) {
+    let tables = table_bytes(tables);
+    made.push('S', case, &[&net.bytes(), &tables, &[kind], &eight(asked), &eight(d), failure]);
+}
+
+fn push_step_at_random(chance: &mut Chance, made: &mut Made, net: &Net, drawn: &Tables) {
     let wrong_in = wrong_in(chance);
     let (tables, damage) = lent(chance, net, drawn, wrong_in);
     let mut wrong = false;
@@ -403,18 +423,24 @@ fn push_step(chance: &mut Chance, made: &mut Made, net: &Net, drawn: &Tables) {
         link_ahead(chance, net, &tables, (usize::from(arrival), asked as usize), d as usize)
     };
     let failure = failure(chance, net, ahead, wrong_in, &mut wrong);
-    let parts: [&[u8]; 6] = [
-        &net.bytes(),
-        &table_bytes(&tables),
-        &[u8::from(arrival)],
-        &eight(asked),
-        &eight(d),
-        &failure,
-    ];
-    made.push('S', case_of(damage, wrong), &parts);
+    let kind = if arrival { ARRIVAL } else { START };
+    push_step(made, case_of(damage, wrong), (net, &tables), (kind, asked), d, &failure);
 }
 
-fn push_walk(chance: &mut Chance, made: &mut Made, net: &Net, drawn: &Tables) {
+fn push_walk(
+    made: &mut Made,
+    case: &str,
+    (net, tables): (&Net, &Tables),
+    (source, d): (u64, u64),
+    failure: &[u8],
+    limit: u8,
+    trace: usize,
+) {
+    let (tables, ends) = (table_bytes(tables), [eight(source), eight(d)].concat());
+    made.push('W', case, &[&net.bytes(), &tables, &ends, failure, &[limit], &two(trace)]);
+}
+
+fn push_walk_at_random(chance: &mut Chance, made: &mut Made, net: &Net, drawn: &Tables) {
     let wrong_in = wrong_in(chance);
     let (tables, damage) = lent(chance, net, drawn, wrong_in);
     let mut wrong = false;
@@ -443,16 +469,7 @@ fn push_walk(chance: &mut Chance, made: &mut Made, net: &Net, drawn: &Tables) {
         "nothing put wrong" if trace < exact => "short trace",
         case => case,
     };
-    let parts: [&[u8]; 7] = [
-        &net.bytes(),
-        &table_bytes(&tables),
-        &eight(source),
-        &eight(d),
-        &failure,
-        &[limit],
-        &two(trace),
-    ];
-    made.push('W', case, &parts);
+    push_walk(made, case, (net, &tables), (source, d), &failure, limit, trace);
 }
 
 fn push_figures(chance: &mut Chance, made: &mut Made, net: &Net, drawn: &Tables) {
@@ -498,8 +515,8 @@ fn push_good(chance: &mut Chance, made: &mut Made, net: &Net) {
     for _ in 0..2 {
         let drawn = arbitrary(chance, net);
         for _ in 0..5 {
-            push_step(chance, made, net, &drawn);
-            push_walk(chance, made, net, &drawn);
+            push_step_at_random(chance, made, net, &drawn);
+            push_walk_at_random(chance, made, net, &drawn);
         }
         push_figures(chance, made, net, &drawn);
     }
