@@ -214,7 +214,8 @@ fn bench_sheet(tally: &mut Tally) {
 const CHAIN: [u8; 8] = [3, 2, 0, 1, 1, 1, 1, 1];
 const APART: [u8; 5] = [3, 1, 0, 1, 1];
 
-/// The built tables of APART, byte by byte.
+/// The built tables of APART. The batch lends the same bytes, as its generator
+/// can build none: change them there too.
 const APART_ROUTING: [u8; 9] = [254, 1, 255, 0, 254, 255, 255, 255, 254];
 const APART_FORWARDING: [u8; 6] = [0, 254, 255, 254, 1, 255];
 const APART_BACKWARDING: [u8; 6] = [254, 255, 255, 255, 254, 255];

@@ -1,14 +1,14 @@
 //! Sub-command `tables`: a batch of records for paths, key links, tables, steps
-//! and walks. It reaches every refusal, every ending, equal paths, bridges,
-//! separate parts, interfaces with several key links, the limits and what lies
-//! one past them.
+//! and walks. It reaches every refusal, every ending, arrivals that find
+//! nothing, equal paths, bridges, separate parts, interfaces with several key
+//! links, the limits and what lies one past them.
 //!
 //! COUNT is the number of good networks; each brings records of every kind. A
 //! list of deliberate networks comes first, the rest is drawn at random.
-//! Networks with a fault come on top of them.
+//! Deliberate steps and walks, and networks with a fault, come on top of them.
 
 use crate::chance::Chance;
-use crate::networks::{net_at_random, net_list, Net, NetCase, Weights, MOST_LINKS};
+use crate::networks::{net_at_random, net_list, Link, Net, NetCase, Weights, MOST_LINKS};
 use crate::record::{eight, record, two, LONGEST_ROW, LONGEST_TABLE, LONGEST_TRACE};
 use crate::shapes::Shape;
 use std::collections::BTreeMap;
@@ -87,7 +87,7 @@ fn exact_lengths(net: &Net) -> [usize; 3] {
 
 /// Tables that nobody built from best paths, but that a walk must accept.
 /// Some of them lead nearly everywhere, some round in circles, some have
-/// gaps, so that every ending occurs.
+/// gaps, so that every ending occurs, also for want of an entry on arrival.
 fn arbitrary(chance: &mut Chance, net: &Net) -> Tables {
     let n = net.size();
     // One entry in so many is 255; with 0, only where there is no neighbour.
@@ -549,10 +549,91 @@ fn push_bad(chance: &mut Chance, made: &mut Made, case: &str, bad: &Net, near: &
     made.push('F', &case, &[&network, &tables, &failure]);
 }
 
+// ---------------------------------------------------- nothing on arrival
+
+/// Entries that lead to the neighbour with the fewest links to go. A packet
+/// that is turned back goes to another than the one it cannot be sent to.
+fn straight_row(net: &Net, table: usize, row: usize) -> Vec<u8> {
+    let node = decider(net, table, row);
+    let mut choices = net.neighbours(node);
+    if table == 2 {
+        choices.retain(|&next| next != net.ends(row).1);
+    }
+    let entry = |d: usize| match choices.iter().min_by_key(|&&next| net.distances(d)[next]) {
+        _ if d == node => 254,
+        Some(&nearest) => nearest as u8,
+        None => 255,
+    };
+    (0..net.size()).map(entry).collect()
+}
+
+fn straight(net: &Net) -> Tables {
+    [0, 1, 2].map(|table| {
+        (0..row_count(net, table)).flat_map(|row| straight_row(net, table, row)).collect()
+    })
+}
+
+/// From a node of a chain to its last one, but over one interface there is
+/// nothing to follow on arrival; and the step on that arrival.
+fn push_gap(made: &mut Made, case: &str, nodes: usize, source: u64, gap: (usize, usize)) {
+    let links: Vec<Link> = (1..nodes).map(|high| (high - 1, high, 1)).collect();
+    let net = Net::listed(nodes, &links);
+    let d = nodes - 1;
+    let interface = net.interface(gap.0, gap.1).expect("neighbours");
+    let mut tables = straight(&net);
+    tables[1][interface * nodes + d] = 255;
+
+    let failures = (0..net.links()).map(|link| failure_bytes(1, link as u64));
+    for failure in std::iter::once(failure_bytes(0, 0)).chain(failures) {
+        for limit in [0, 1, 2, 3, 4, 64, 255] {
+            let trace = usize::from(limit) + 1;
+            push_walk(made, case, (&net, &tables), (source, d as u64), &failure, limit, trace);
+        }
+        push_step(made, case, (&net, &tables), (ARRIVAL, interface as u64), d as u64, &failure);
+    }
+}
+
+/// The built tables of three nodes whose one link is 0-1. The second program's
+/// self-test has the same bytes and shows that they are: change them there too.
+const BUILT_APART: [&[u8]; 3] = [
+    &[254, 1, 255, 0, 254, 255, 255, 255, 254],
+    &[0, 254, 255, 254, 1, 255],
+    &[254, 255, 255, 255, 254, 255],
+];
+
+/// No walk to node 2 arrives anywhere over these, but a step can be asked on
+/// each arrival.
+fn push_apart(made: &mut Made) {
+    let case = "built tables, destination apart";
+    let net = Net::listed(3, &[(0, 1, 1)]);
+    let tables = BUILT_APART.map(<[u8]>::to_vec);
+    for failure in [failure_bytes(0, 0), failure_bytes(1, 0)] {
+        for number in [0, 1] {
+            push_step(made, case, (&net, &tables), (ARRIVAL, number), 2, &failure);
+            push_step(made, case, (&net, &tables), (START, number), 2, &failure);
+            for limit in [0, 1, 64] {
+                let trace = usize::from(limit) + 1;
+                push_walk(made, case, (&net, &tables), (number, 2), &failure, limit, trace);
+            }
+        }
+    }
+}
+
+/// Steps and walks that find nothing on arrival. Nothing is drawn for them, so
+/// that the records after them stay as they are.
+fn push_arrival_list(made: &mut Made) {
+    push_gap(made, "gap on the first arrival", 3, 0, (0, 1));
+    push_gap(made, "gap two arrivals later", 5, 0, (2, 3));
+    push_gap(made, "gap after turning back", 3, 0, (1, 0));
+    push_gap(made, "gap after turning back", 3, 1, (1, 0));
+    push_apart(made);
+}
+
 // ------------------------------------------------------------- the batch
 
 pub fn make(chance: &mut Chance, count: usize) -> Vec<u8> {
     let mut made = Made { batch: Vec::new(), cases: BTreeMap::new(), kinds: BTreeMap::new() };
+    push_arrival_list(&mut made);
     let mut listed = net_list(chance).into_iter();
     let mut names: BTreeMap<&'static str, usize> = BTreeMap::new();
     let mut walks = 0;
