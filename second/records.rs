@@ -2,13 +2,16 @@
 //! record. Records and answer lines: ../compare/FORMAT.md.
 
 use crate::batch::{self, hex, Record, MOST_TABLE, MOST_TRACE, UNTOUCHED};
-use crate::network::{shown, Network};
+use crate::network::{shown, Network, Refusal};
 use crate::paths::{by_tree, Best};
 use crate::tables::{self, Lent, Told};
-use crate::walk::{self, Asked, Failure, Figures, Step};
+use crate::walk::{self, Asked, Failure, Figures, Step, Walk};
 
-/// The kind of a record that has tables built.
+/// The kind of a record that has tables built, and of one that asks a step or
+/// a walk over lent ones.
 pub const TABLES: u8 = b'T';
+pub const STEP: u8 = b'S';
+pub const WALK: u8 = b'W';
 
 /// Larger networks' tables are told by their hash alone.
 const MOST_NODES_IN_FULL: u64 = 6;
@@ -60,6 +63,65 @@ pub fn rooms(record: &mut Record) -> Result<(Network, [Vec<u8>; 3]), String> {
     Ok((network, rooms))
 }
 
+/// A record of kind S.
+pub struct LentStep<'a> {
+    network: Network,
+    tables: Lent<'a>,
+    pub asked: Asked,
+    destination: u64,
+    failure: Failure,
+}
+
+impl<'a> LentStep<'a> {
+    pub fn read(record: &mut Record<'a>) -> Result<LentStep<'a>, String> {
+        let network = record.network()?;
+        let tables = lent(record)?;
+        let kind = record.byte()?;
+        let asked = match (kind, record.little(8)?) {
+            (0, node) => Asked::Start(node),
+            (1, interface) => Asked::Arrival(interface),
+            (other, _) => return Err(format!("no kind of step: byte {other}")),
+        };
+        let destination = record.little(8)?;
+        Ok(LentStep { network, tables, asked, destination, failure: failure(record)? })
+    }
+
+    pub fn answer(&self) -> Result<Step, Refusal> {
+        walk::step(&self.network, self.tables, self.asked, self.destination, self.failure)
+    }
+}
+
+/// A record of kind W.
+pub struct LentWalk<'a> {
+    pub network: Network,
+    pub tables: Lent<'a>,
+    source: u64,
+    pub destination: u64,
+    failure: Failure,
+    limit: u8,
+    trace: Vec<u8>,
+}
+
+impl<'a> LentWalk<'a> {
+    pub fn read(record: &mut Record<'a>) -> Result<LentWalk<'a>, String> {
+        Ok(LentWalk {
+            network: record.network()?,
+            tables: lent(record)?,
+            source: record.little(8)?,
+            destination: record.little(8)?,
+            failure: failure(record)?,
+            limit: record.byte()?,
+            trace: vec![UNTOUCHED; record.length(2, MOST_TRACE)?],
+        })
+    }
+
+    pub fn answer(&mut self) -> Result<Walk, Refusal> {
+        let (source, destination) = (self.source, self.destination);
+        let LentWalk { network, tables, failure, limit, trace, .. } = self;
+        walk::walk(network, *tables, source, destination, *failure, *limit, trace)
+    }
+}
+
 fn tables_line(record: &mut Record) -> Result<String, String> {
     let (network, mut rooms) = rooms(record)?;
     let (number, place) = shown(&tables::fill(&network, &mut rooms));
@@ -106,17 +168,7 @@ fn row_line(record: &mut Record) -> Result<String, String> {
 }
 
 fn step_line(record: &mut Record) -> Result<String, String> {
-    let network = record.network()?;
-    let tables = lent(record)?;
-    let kind = record.byte()?;
-    let asked = match (kind, record.little(8)?) {
-        (0, node) => Asked::Start(node),
-        (1, interface) => Asked::Arrival(interface),
-        (other, _) => return Err(format!("no kind of step: byte {other}")),
-    };
-    let destination = record.little(8)?;
-    let failure = failure(record)?;
-    let answer = walk::step(&network, tables, asked, destination, failure);
+    let answer = LentStep::read(record)?.answer();
     let (number, place) = shown(&answer);
     let step = match answer {
         Ok(Step::Delivered) => "delivered".to_string(),
@@ -129,17 +181,11 @@ fn step_line(record: &mut Record) -> Result<String, String> {
 }
 
 fn walk_line(record: &mut Record) -> Result<String, String> {
-    let network = record.network()?;
-    let tables = lent(record)?;
-    let source = record.little(8)?;
-    let destination = record.little(8)?;
-    let failure = failure(record)?;
-    let limit = record.byte()?;
-    let mut trace = vec![UNTOUCHED; record.length(2, MOST_TRACE)?];
-    let answer = walk::walk(&network, tables, source, destination, failure, limit, &mut trace);
+    let mut lent = LentWalk::read(record)?;
+    let answer = lent.answer();
     let (number, place) = shown(&answer);
     let (ending, hops) = answer.map_or((0, 0), |walk| (walk.ending, walk.hops()));
-    Ok(format!("walk {number} at {place} ending {ending} hops {hops} trace {}", hex(&trace)))
+    Ok(format!("walk {number} at {place} ending {ending} hops {hops} trace {}", hex(&lent.trace)))
 }
 
 fn all_line(record: &mut Record) -> Result<String, String> {
@@ -180,8 +226,8 @@ fn line(record: &mut Record) -> Result<String, String> {
         b'K' => keys_line(record),
         b'B' => best_line(record),
         b'R' => row_line(record),
-        b'S' => step_line(record),
-        b'W' => walk_line(record),
+        STEP => step_line(record),
+        WALK => walk_line(record),
         b'A' => all_line(record),
         b'F' => figures_line(record),
         _ => Err(record.unknown()),

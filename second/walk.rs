@@ -20,6 +20,7 @@ impl Failure {
 }
 
 /// Where a step is asked, as it is lent.
+#[derive(Clone, Copy)]
 pub enum Asked {
     Start(u64),
     Arrival(u64),
