@@ -30,7 +30,7 @@ records() {
         "$out/compare" "$out/$1.batch" "$out/$1.proved" "$out/$1.second" "$1"
 }
 
-# a batch of tables tells the backwarding rule from two others: its LABEL
+# a batch of tables tells the rules that were followed from others that look like them: its LABEL
 rules() {
     "$out/second" rules < "$out/$1.batch"
 }

@@ -1,20 +1,26 @@
-//! Sub-command `rules`: whether a batch tells the rule for backwarding entries
-//! from two others that look like it. Those take out the interface's own link
-//! alone, or with it only the key link nearest the destination, which 000's
-//! lemma 2 allows for forwarding entries. Two programs that agree on a table
-//! have shown the same rule only if another rule would have changed an entry,
-//! so such entries are counted.
+//! Sub-command `rules`: whether a batch tells rules from others that look like
+//! them. Two programs that agree have shown the same rule only if another one
+//! would have answered otherwise, so what shows the rule is counted.
 //!
-//! Records with tables to be filled count, if they are filled. Walks over built
-//! tables show no difference: with one link failed at most, they ask the
-//! backwarding entry of usual interfaces alone, and those have no key links.
+//! Backwarding entries (request L2): others take out the interface's own link
+//! alone, or with it only the key link nearest the destination, which 000's
+//! lemma 2 allows for forwarding entries. Records with tables to be filled
+//! count, if they are filled. Walks over built tables show no difference: with
+//! one link failed at most, they ask the backwarding entry of usual interfaces
+//! alone, and those have no key links.
+//!
+//! Nothing to follow on arrival (request L7): a walk tells it as dropped, and a
+//! step still says it. Records of walks and steps count, if they are accepted.
 
 use crate::batch::{self, Record};
 use crate::network::Network;
 use crate::paths::{by_tree, Best};
-use crate::records::{rooms, TABLES};
-use crate::tables::{self, entry, key_links};
+use crate::records::{rooms, LentStep, LentWalk, STEP, TABLES, WALK};
+use crate::tables::{self, entry, key_links, NO_PATH};
+use crate::walk::{Asked, Step, Walk, DROPPED};
 use std::collections::HashSet;
+
+// --------------------------------------------------- backwarding entries
 
 /// Backwarding tables by the other rules, and how many of the entries have key
 /// links.
@@ -61,46 +67,137 @@ pub fn count(others: &Others, built: &[u8]) -> [usize; 3] {
     [others.with_key_links, differing(&others.own_link_alone), differing(&others.nearest_alone)]
 }
 
-/// The network of a record and its backwarding table, if tables are filled.
-fn built(record: &mut Record) -> Result<Option<(Network, Vec<u8>)>, String> {
-    if record.kind != TABLES {
-        record.skip();
-        return Ok(None);
-    }
-    let (network, mut rooms) = rooms(record)?;
-    let filled = tables::fill(&network, &mut rooms);
-    let [_, _, backwarding] = rooms;
-    Ok(filled.is_ok().then_some((network, backwarding)))
+/// What is found in tables that were built.
+#[derive(Default)]
+struct Entries {
+    /// A network may come again, with other rooms; it counts once.
+    networks: HashSet<Network>,
+    all: usize,
+    counted: [usize; 3],
+    in_networks: [usize; 3],
 }
 
-/// Whether the batch tells the rule from both others.
-pub fn run(input: &[u8], output: &mut impl std::io::Write) -> Result<bool, String> {
-    let mut all = 0;
-    let (mut entries, mut networks) = ([0; 3], [0; 3]);
-    // A network may come again, with other rooms; it counts once.
-    let mut seen: HashSet<Network> = HashSet::new();
-    batch::each(input, built, |built| {
-        let Some((network, backwarding)) = built else {
-            return Ok(());
-        };
+impl Entries {
+    fn add(&mut self, network: Network, backwarding: &[u8]) {
         // Filled tables are those of a good network.
         let Ok(graph) = network.graph() else {
-            return Ok(());
+            return;
         };
-        if seen.insert(network) {
+        if self.networks.insert(network) {
             let others = others(&mut Best::new(&graph, by_tree));
-            all += others.own_link_alone.len();
-            for (what, found) in count(&others, &backwarding).into_iter().enumerate() {
-                entries[what] += found;
-                networks[what] += usize::from(found > 0);
+            self.all += others.own_link_alone.len();
+            for (what, found) in count(&others, backwarding).into_iter().enumerate() {
+                self.counted[what] += found;
+                self.in_networks[what] += usize::from(found > 0);
             }
+        }
+    }
+
+    fn told(&self) -> String {
+        let networks = self.networks.len();
+        let mut text = format!("rules: {} backwarding entries of {networks} networks\n", self.all);
+        for (what, counted) in COUNTED.iter().enumerate() {
+            let (entries, networks) = (self.counted[what], self.in_networks[what]);
+            text += &format!("rules: {entries} in {networks} networks {counted}\n");
+        }
+        text
+    }
+}
+
+// ---------------------------------------------------- nothing on arrival
+
+/// Whether an accepted walk ends for want of an entry on arrival, and not at
+/// the failed link: it reads the forwarding entry of its last hop.
+fn no_entry_on_arrival(lent: &LentWalk, walk: &Walk) -> bool {
+    let Ok(graph) = lent.network.graph() else {
+        return false;
+    };
+    let [.., from, to] = walk.nodes[..] else {
+        return false;
+    };
+    let crossed = graph.interface(usize::from(from), usize::from(to)).expect("a hop over a link");
+    let entry = lent.tables.forwarding[crossed * graph.nodes + lent.destination as usize];
+    walk.ending == DROPPED && entry == NO_PATH
+}
+
+/// How many of all accepted records show the rule.
+#[derive(Default)]
+struct Share {
+    showing: usize,
+    all: usize,
+}
+
+impl Share {
+    fn add(&mut self, shows: bool) {
+        self.showing += usize::from(shows);
+        self.all += 1;
+    }
+}
+
+// ------------------------------------------------------------- the batch
+
+/// What a record adds to the counts.
+enum Counts {
+    /// A network and its backwarding table.
+    Entries(Network, Vec<u8>),
+    /// Whether the walk finds no entry on arrival.
+    Walk(bool),
+    /// Whether the step is asked on an arrival and finds nothing to follow.
+    Step(bool),
+}
+
+fn tables_counts(record: &mut Record) -> Result<Option<Counts>, String> {
+    let (network, mut rooms) = rooms(record)?;
+    let filled = tables::fill(&network, &mut rooms).is_ok();
+    let [_, _, backwarding] = rooms;
+    Ok(filled.then_some(Counts::Entries(network, backwarding)))
+}
+
+fn walk_counts(record: &mut Record) -> Result<Option<Counts>, String> {
+    let mut lent = LentWalk::read(record)?;
+    let walk = lent.answer().ok();
+    Ok(walk.map(|walk| Counts::Walk(no_entry_on_arrival(&lent, &walk))))
+}
+
+fn step_counts(record: &mut Record) -> Result<Option<Counts>, String> {
+    let lent = LentStep::read(record)?;
+    let on_arrival = matches!(lent.asked, Asked::Arrival(_));
+    let step = lent.answer().ok();
+    Ok(step.map(|step| Counts::Step(on_arrival && matches!(step, Step::Nothing))))
+}
+
+/// Nothing for a refused record, and for one of another kind.
+fn counts(record: &mut Record) -> Result<Option<Counts>, String> {
+    match record.kind {
+        TABLES => tables_counts(record),
+        WALK => walk_counts(record),
+        STEP => step_counts(record),
+        _ => {
+            record.skip();
+            Ok(None)
+        }
+    }
+}
+
+/// Whether the batch tells the rules from the others.
+pub fn run(input: &[u8], output: &mut impl std::io::Write) -> Result<bool, String> {
+    let mut entries = Entries::default();
+    let (mut walks, mut steps) = (Share::default(), Share::default());
+    batch::each(input, counts, |counts| {
+        match counts {
+            Some(Counts::Entries(network, backwarding)) => entries.add(network, &backwarding),
+            Some(Counts::Walk(shows)) => walks.add(shows),
+            Some(Counts::Step(shows)) => steps.add(shows),
+            None => {}
         }
         Ok(())
     })?;
-    let mut text = format!("rules: {all} backwarding entries of {} networks\n", seen.len());
-    for (what, counted) in COUNTED.iter().enumerate() {
-        text += &format!("rules: {} in {} networks {counted}\n", entries[what], networks[what]);
-    }
+    let mut text = entries.told();
+    text += &format!("rules: {} of {} walks find no entry on arrival\n", walks.showing, walks.all);
+    text += &format!(
+        "rules: {} of {} steps are asked on an arrival and find nothing to follow\n",
+        steps.showing, steps.all
+    );
     output.write_all(text.as_bytes()).map_err(|fault| fault.to_string())?;
-    Ok(!entries.contains(&0))
+    Ok(!entries.counted.contains(&0) && walks.showing > 0 && steps.showing > 0)
 }

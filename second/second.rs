@@ -13,7 +13,7 @@
 //!         (the other files of the program are found beside this one)
 //! Use:    second codec < batch > answers      reader and writer of plans
 //!         second tables < batch > answers     paths, tables, steps and walks
-//!         second rules < batch                entries that show their rule
+//!         second rules < batch                what tells rules apart
 //!         second report < plan                a stored plan's report
 //!         second selftest                     reads nothing
 //!

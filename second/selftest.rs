@@ -3,12 +3,11 @@
 //!
 //! Five parts: the bench sheet, the report that document 01 prints, and rows
 //! on arrivals that find nothing; batches whose lengths are wrong, which must
-//! not pass, and batches that cannot tell the rules for backwarding entries
-//! apart; the two ways to best paths against each other on small networks full
-//! of equal paths; demand 3 on networks of every size; and on the same ones,
-//! whatever links have failed, that every arrival finds an entry. Nothing is
-//! read, and every run does the same. It prints how often each thing was
-//! checked, and up to 20 faults.
+//! not pass, and batches that cannot tell rules apart; the two ways to best
+//! paths against each other on small networks full of equal paths; demand 3 on
+//! networks of every size; and on the same ones, whatever links have failed,
+//! that every arrival finds an entry. Nothing is read, and every run does the
+//! same. It prints how often each thing was checked, and up to 20 faults.
 
 use crate::network::{Graph, Network};
 use crate::paths::{by_tree, by_trial, every_chain, set_of, sum_of, Best, Method};
@@ -98,6 +97,14 @@ impl Built {
         };
         let tables = tables::build(&mut Best::new(&graph, method));
         Built { network, graph, tables, method }
+    }
+
+    /// Without the entry on one arrival. Nobody builds such tables, but they
+    /// pass refusal 16.
+    fn with_gap(mut self, j: usize, i: usize, d: usize) -> Built {
+        let gap = self.place(j, i, d);
+        self.tables.forwarding[gap] = NO_PATH;
+        self
     }
 
     fn interface(&self, from: usize, to: usize) -> usize {
@@ -223,12 +230,10 @@ const APART_BACKWARDING: [u8; 6] = [254, 255, 255, 255, 254, 255];
 /// Tells one row: its name, and whether it holds.
 type Row<'a> = &'a mut dyn FnMut(&str, bool);
 
-/// Nobody builds tables with such a gap, but they pass refusal 16.
-fn gap_on_arrival(row: Row, mut chain: Built) {
+fn gap_on_arrival(row: Row, chain: Built) {
     row("chain, routing", chain.routing(0, 2) == 1);
     row("chain, as built", chain.walk(0, 2, None, 64) == (0, vec![0, 1, 2]));
-    let gap = chain.place(0, 1, 2);
-    chain.tables.forwarding[gap] = NO_PATH;
+    let mut chain = chain.with_gap(0, 1, 2);
     row("gap", chain.walk(0, 2, None, 64) == (2, vec![0, 1]));
     row("gap, limit 2", chain.walk(0, 2, None, 2) == (2, vec![0, 1]));
     row("gap, limit 1", chain.walk(0, 2, None, 1) == (3, vec![0, 1]));
@@ -245,10 +250,10 @@ fn gap_on_arrival(row: Row, mut chain: Built) {
 }
 
 /// Node 1 cannot send to 2 and turns the packet back to 0.
-fn gap_after_turning(row: Row, mut chain: Built) {
-    let (turn, gap) = (chain.place(1, 2, 2), chain.place(1, 0, 2));
+fn gap_after_turning(row: Row, chain: Built) {
+    let mut chain = chain.with_gap(1, 0, 2);
+    let turn = chain.place(1, 2, 2);
     chain.tables.backwarding[turn] = 0;
-    chain.tables.forwarding[gap] = NO_PATH;
     let failed = Some((1, 2));
     row("turned", chain.walk(0, 2, failed, 64) == (2, vec![0, 1, 0]));
     row("turned, limit 2", chain.walk(0, 2, failed, 2) == (3, vec![0, 1, 0]));
@@ -298,14 +303,41 @@ fn batches(tally: &mut Tally) {
     }
 }
 
-/// A record with three tables of this length to be filled.
-fn tables_record(network: &Network, length: u8) -> Vec<u8> {
+/// A network, and the fields after it.
+fn network_record(kind: u8, network: &Network, rest: &[&[u8]]) -> Vec<u8> {
     let mut fields = network.nodes.to_le_bytes().to_vec();
     fields.extend([network.lows.len() as u8; 3]);
     fields.extend([&network.lows[..], &network.highs].concat());
     fields.extend(network.weights.iter().flat_map(|weight| weight.to_le_bytes()));
-    fields.extend([length, 0].repeat(3));
-    [&[b'T', fields.len() as u8, 0, 0, 0], &fields[..]].concat()
+    fields.extend(rest.concat());
+    [&[kind, fields.len() as u8, 0, 0, 0], &fields[..]].concat()
+}
+
+/// Three tables of this length to be filled.
+fn tables_record(network: &Network, length: u8) -> Vec<u8> {
+    network_record(b'T', network, &[&[length, 0].repeat(3)])
+}
+
+fn lent_fields(tables: &Tables) -> Vec<u8> {
+    let lent = [&tables.routing, &tables.forwarding, &tables.backwarding];
+    lent.into_iter().flat_map(|table| [&[table.len() as u8, 0], &table[..]].concat()).collect()
+}
+
+const NONE_FAILED: [u8; 9] = [0; 9];
+const LINK_1_FAILED: [u8; 9] = [1, 1, 0, 0, 0, 0, 0, 0, 0];
+
+/// A walk from 0 to 2, with room for so many nodes.
+fn walk_record(built: &Built, failure: [u8; 9], limit: u8, trace: u8) -> Vec<u8> {
+    let ends = [0_u64, 2].map(u64::to_le_bytes).concat();
+    let rest: [&[u8]; 4] = [&lent_fields(&built.tables), &ends, &failure, &[limit, trace, 0]];
+    network_record(b'W', &built.network, &rest)
+}
+
+/// A step for 2, at a start node (0) or on arrival over an interface (1).
+fn step_record(built: &Built, kind: u8, asked: u64) -> Vec<u8> {
+    let numbers = [asked, 2].map(u64::to_le_bytes).concat();
+    let rest: [&[u8]; 4] = [&lent_fields(&built.tables), &[kind], &numbers, &NONE_FAILED];
+    network_record(b'S', &built.network, &rest)
 }
 
 fn other_rules(tally: &mut Tally) {
@@ -318,21 +350,67 @@ fn other_rules(tally: &mut Tally) {
             && [others.own_link_alone[place], others.nearest_alone[place]] == [2, 2];
         tally.check("other rules on plan A", holds, || way.to_string());
     }
+}
+
+/// Each needs a record of tables, of a walk and of a step that show the rules.
+fn telling_batches(tally: &mut Tally) {
     let (a, square) = (Built::new(&PLAN_A, by_tree).network, Built::new(&SQUARE, by_tree).network);
+    let (chain, apart) = (Built::new(&CHAIN, by_tree), Built::new(&APART, by_tree));
+    let gap = Built::new(&CHAIN, by_tree).with_gap(0, 1, 2);
+    let none = Vec::new();
+    let tables = tables_record(&a, 40);
+    let walk = walk_record(&gap, NONE_FAILED, 64, 65);
+    let step = step_record(&gap, 1, 0);
+    let square = tables_record(&square, 40);
+    let both = [&square[..], &tables].concat();
+    let none_at_start = walk_record(&apart, NONE_FAILED, 64, 65);
+    let at_failed_link = walk_record(&chain, LINK_1_FAILED, 64, 65);
     for (name, batch, tells) in [
-        ("plan A", tables_record(&a, 40), true),
-        ("both", [tables_record(&square, 40), tables_record(&a, 40)].concat(), true),
-        ("the square, where no interface has two key links", tables_record(&square, 40), false),
-        ("plan A without room", tables_record(&a, 39), false),
-        ("no records", vec![], false),
+        ("plan A and a gap", [&tables, &walk, &step], true),
+        ("the square, plan A and a gap", [&both, &walk, &step], true),
+        ("no tables", [&none, &walk, &step], false),
+        ("the square, where no interface has two key links", [&square, &walk, &step], false),
+        ("plan A without room", [&tables_record(&a, 39), &walk, &step], false),
+        ("no walk", [&tables, &none, &step], false),
+        ("a walk delivered", [&tables, &walk_record(&chain, NONE_FAILED, 64, 65), &step], false),
+        ("a walk with no entry at the start", [&tables, &none_at_start, &step], false),
+        ("a walk dropped at the failed link", [&tables, &at_failed_link, &step], false),
+        ("a walk with its limit used up", [&tables, &walk_record(&gap, NONE_FAILED, 1, 2), &step], false),
+        ("a walk with a short trace", [&tables, &walk_record(&gap, NONE_FAILED, 64, 64), &step], false),
+        ("no step", [&tables, &walk, &none], false),
+        ("a step with an entry", [&tables, &walk, &step_record(&chain, 1, 0)], false),
+        ("a step at the start", [&tables, &walk, &step_record(&apart, 0, 0)], false),
+        ("a step over no interface", [&tables, &walk, &step_record(&gap, 1, 4)], false),
+        ("no records", [&none, &none, &none], false),
     ] {
-        let told = rules::run(&batch, &mut std::io::sink());
+        let told = rules::run(&batch.map(Vec::as_slice).concat(), &mut std::io::sink());
         tally.check("batches that tell the rules apart", told == Ok(tells), || name.to_string());
     }
+}
+
+/// A network counts once, and refused records do not.
+fn counts_of_rules(tally: &mut Tally) {
+    let gap = Built::new(&CHAIN, by_tree).with_gap(0, 1, 2);
+    let batch = [
+        tables_record(&Built::new(&PLAN_A, by_tree).network, 40).repeat(2),
+        walk_record(&gap, NONE_FAILED, 64, 65),
+        walk_record(&gap, NONE_FAILED, 1, 2),
+        walk_record(&gap, NONE_FAILED, 64, 64),
+        step_record(&gap, 1, 0),
+        step_record(&gap, 0, 0),
+        step_record(&gap, 1, 4),
+    ];
     let mut told = Vec::new();
-    let twice = rules::run(&tables_record(&a, 40).repeat(2), &mut told).is_ok();
-    let once = told.starts_with(b"rules: 40 backwarding entries of 1 networks\n");
-    tally.check("a network counts once for its rules", twice && once, || "plan A".to_string());
+    let told_all = rules::run(&batch.concat(), &mut told) == Ok(true);
+    let told = String::from_utf8_lossy(&told);
+    for line in [
+        "rules: 40 backwarding entries of 1 networks",
+        "rules: 1 of 2 walks find no entry on arrival",
+        "rules: 1 of 2 steps are asked on an arrival and find nothing to follow",
+    ] {
+        let holds = told_all && told.lines().any(|other| other == line);
+        tally.check("lines that count for the rules", holds, || line.to_string());
+    }
 }
 
 // ------------------------------------------------------- random networks
@@ -745,6 +823,8 @@ pub fn run(output: &mut impl std::io::Write) -> Result<bool, String> {
     part(&mut |tally| {
         batches(tally);
         other_rules(tally);
+        telling_batches(tally);
+        counts_of_rules(tally);
     })?;
     part(&mut |tally| {
         for _ in 0..SMALL_NETWORKS {
