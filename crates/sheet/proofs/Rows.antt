@@ -5,12 +5,13 @@ use Prim.Native.Nat.{ℕ, _<_}
 use mathlib.Core.Bool.{Bool, true}
 use mathlib.Core.Path.{_≡_, refl}
 use mathlib.Core.List.{List, [], _∷_, map}
+use mathlib.Core.Option.{none as no-link}
 use borrow.Author.Tests.{ltb-true, eqb-true}
 use lib.Dec.{ltb, eqb}
 use lib.ListN.{length}
 use Rattle.graph.specs.Network.{link, reverse, byDirection, tail, head}
 use Rattle.graph.specs.Path.{visits}
-use Rattle.graph.specs.Walk.{failedBy, around, stepBy, Ending, endsBy, crossing, goesOn, walkFrom, walkOf}
+use Rattle.graph.specs.Walk.{Tables, failedBy, Step, around, stepBy, Ending, endsBy, crossing, goesOn, walkFrom, walkOf}
 use Rattle.net.specs.Refusals.{accepted}
 use Rattle.net.specs.Choice.{both}
 use Rattle.net.specs.Rows.{Rows, networkOf}
@@ -31,11 +32,14 @@ use Rattle.paths.specs.inner.Rounds.{roundFrom, roundOf, roundsFrom, settled, b
 use Rattle.tables.specs.inner.KeyTest.{crossesLink, keyTest}
 use Rattle.tables.specs.inner.Detours.{dearerOf, noted, nothingKept, keysFor, forwardCost}
 use Rattle.tables.proofs.Tests.{both-true}
-use Rattle.sheet.specs.Sheet.{courseIn, planA, squarePlan, pairPlan}
-use Rattle.sheet.specs.Sheet.{Row, routes, keys, forwards, backwards, walks, stores, refuses, Holds, Every, none, more, rows}
+use Rattle.walk.specs.Lent.{interfaceFrom, interfaceTo, leads, hopAt, tablesFor, allBelow, leadsOn, bytePasses, tablePasses, tablesPass}
+use Rattle.walk.proofs.EntriesPass.{passes-exactly}
+use Rattle.sheet.specs.Sheet.{Journey, courseIn, planA, squarePlan, pairPlan, chainPlan, gapTables, partedPlan}
+use Rattle.sheet.specs.Sheet.{Row, routes, keys, forwards, backwards, walks, walksOver, steps, stores, refuses, Holds}
+use Rattle.sheet.specs.Sheet.{Every, none, more, rows}
 use Rattle.sheet.proofs.Computed.{told, costBut, costAll, routed, keptBelow, keysOf, forwarded, backwarded, computed}
 use Rattle.sheet.proofs.Computed.{routed-entry, keys-are, forwarded-entry, backwarded-entry, computed-built}
-use Rattle.sheet.proofs.SameWalk.{same-walk}
+use Rattle.sheet.proofs.SameWalk.{same-walk, same-arrival}
 
 -- the check accepts the network, d is a node of it, and a number is below a count
 unfoldable pub within : Rows → ℕ → ℕ → ℕ → Bool
@@ -49,6 +53,8 @@ fits (keys R h d set) = within R d (link h) (length (R .low))
 fits (forwards R h d byte) = within R d (link h) (length (R .low))
 fits (backwards R h d byte) = within R d (link h) (length (R .low))
 fits (walks R j trace ending) = within R (j .destination) (j .source) (R .nodes)
+fits (walksOver T R j trace ending) = both (within R (j .destination) (j .source) (R .nodes)) (tablesPass R T)
+fits (steps R h d step) = within R d (link h) (length (R .low))
 fits (stores v bytes) = true
 fits (refuses s number place) = true
 
@@ -60,6 +66,7 @@ allFit (r ∷ rest) = both (fits r) (allFit rest)
 pub data Answer : Type 0 where
   value : ℕ → Answer
   course : List ℕ → Ending → Answer
+  said : Step → Answer
   encoded : List ℕ → Answer
   read : Reading → Answer
 
@@ -69,18 +76,25 @@ given (keys R h d set) = value set
 given (forwards R h d byte) = value byte
 given (backwards R h d byte) = value byte
 given (walks R j trace ending) = course trace ending
+given (walksOver T R j trace ending) = course trace ending
+given (steps R h d step) = said step
 given (stores v bytes) = encoded bytes
 given (refuses s number place) = read (refusal number place)
 
 -- and what is computed for it
+unfoldable pub courseOver : Tables → Rows → Journey → Answer
+courseOver T R j =
+    let c = courseIn R j T in
+    course (visits (networkOf R) (j .source) (c .crossed)) (c .ending)
+
 unfoldable pub answered : Row → Answer
 answered (routes R i d byte) = value (byteOf (networkOf R) (routed R d i))
 answered (keys R h d set) = value (setValue (keysOf R d h))
 answered (forwards R h d byte) = value (byteOf (networkOf R) (forwarded R d h))
 answered (backwards R h d byte) = value (byteOf (networkOf R) (backwarded R d h))
-answered (walks R j trace ending) =
-    let c = courseIn R j (computed R (j .destination)) in
-    course (visits (networkOf R) (j .source) (c .crossed)) (c .ending)
+answered (walks R j trace ending) = courseOver (computed R (j .destination)) R j
+answered (walksOver T R j trace ending) = courseOver (tablesFor R T (j .destination)) R j
+answered (steps R h d step) = said (stepBy (failedBy no-link) (computed R d .backwarding) (computed R d .forwarding h))
 answered (stores v bytes) = encoded (stored v)
 answered (refuses s number place) = read (readPlan s)
 
@@ -98,7 +112,7 @@ within-true R d a count fit =
 
 -- a row that fits, and gives what is computed, holds
 row-holds : (r : Row) → fits r ≡ true → answered r ≡ given r → Holds r
-unfolding Holds fits answered given
+unfolding Holds fits answered given courseOver
 row-holds (routes R i d byte) fit same =
     let t = within-true R d i (R .nodes) fit in
     record { hop = routed R d i; entry = routed-entry R (t .network) d (t .destination) i (t .below); is = cc }
@@ -122,6 +136,17 @@ row-holds (walks R j trace ending) fit same =
     rw (same-walk (networkOf R) W (failedBy (j .failure)) (j .destination) T (computed R (j .destination)) built also
     (j .limit) (j .source) (t .below))
     (record { visited = cc; ended = cc })
+row-holds (walksOver T R j trace ending) fit same =
+    let (numbers, pass) = both-true (within R (j .destination) (j .source) (R .nodes)) _ .0 fit in
+    let t = within-true R (j .destination) (j .source) (R .nodes) numbers in
+    (passes-exactly R (t .network) T .0 pass, record { visited = cc; ended = cc })
+row-holds (steps R h d step) fit same =
+    let t = within-true R d (link h) (length (R .low)) fit in
+    λ T built.
+    let also = computed-built R (t .network) d (t .destination) in
+    rw (same-arrival (networkOf R) (well-formed R (t .network)) (failedBy no-link) d T (computed R d) built also h
+    (row-present R (link h) (t .below)))
+    (cc)
 row-holds (stores v bytes) fit same = cc
 row-holds (refuses s number place) fit same = cc
 
@@ -133,13 +158,15 @@ all-hold (r ∷ rest) fit same =
     more (row-holds r here (cc)) (all-hold rest others (cc))
 
 pub bench-sheet : Every Holds rows
-unfolding rows allFit fits within given answered
-    planA squarePlan pairPlan comesAfter badEnds badWeight outOfOrder linkFault linksFrom rowsDiffer badNodeCount checkNetwork
+unfolding rows allFit fits within given answered courseOver
+    planA squarePlan pairPlan chainPlan gapTables partedPlan
+    comesAfter badEnds badWeight outOfOrder linkFault linksFrom rowsDiffer badNodeCount checkNetwork
     link reverse byDirection tail head visits failedBy around stepBy endsBy crossing goesOn walkFrom walkOf byteOf
     setValue noLinks withLink hasLink isEmpty comesBefore meeting noCost hereCost isKnown before extended entryAt
     startColumn offer linkOffers makesOffers offeringFrom offeringLinks turnOf roundFrom roundOf roundsFrom settled blankFrom blanked
     crossesLink keyTest dearerOf noted nothingKept keysFor forwardCost
     told costBut costAll routed keptBelow keysOf forwarded backwarded computed
+    interfaceFrom interfaceTo leads hopAt tablesFor allBelow leadsOn bytePasses tablePasses tablesPass
     groupsOf stored groupsFrom numberAt refusal takeWeight weightAt takeDifference differenceAt takeLow linkAt takeLink linksRead
     takeLinkCount linkCountAt takeNodeCount readPlan
 bench-sheet = all-hold rows refl refl

@@ -1,6 +1,6 @@
--- Tables that hold the defined entries give one and the same walk. Entries are determined, and a walk reads the entries of its source
--- and of interfaces that it crosses or finds failed; each of these is the first of some path, so its link is present and its entries
--- are the defined ones in both tables.
+-- Tables that hold the defined entries give one and the same walk, and one step on arrival. Entries are determined, and a walk reads the
+-- entries of its source and of interfaces that it crosses or finds failed; each of these is the first of some path, so its link is
+-- present and its entries are the defined ones in both tables.
 use Prim.Native.Nat.{ℕ, zero, suc, _<_}
 use mathlib.Core.Bool.{Bool, true, false}
 use mathlib.Core.Path.{_≡_, refl, ap, _∙_}
@@ -58,6 +58,13 @@ module _ (N : Network) (W : WellFormed N) (failed : ℕ → Bool) (d : ℕ) (T U
   same-step (leads {f} up) =
       ap (λ (g : Hop). elim (failed (link f)) as (λ x. Step) [ true ↦ around failed g | false ↦ crosses f ])
       (entry-one N W (built .backwarding f up) (also .backwarding f up))
+
+  -- and so does the step on arrival over a present link
+  pub same-arrival : (h : ℕ) → N .Present (link h)
+      → stepBy failed (T .backwarding) (T .forwarding h) ≡ stepBy failed (U .backwarding) (U .forwarding h)
+  same-arrival h up =
+      same-step (entry-leads N (built .forwarding h up))
+      ∙ ap (stepBy failed (U .backwarding)) (entry-one N W (built .forwarding h up) (also .forwarding h up))
 
   -- the walk after a step
   abbrev after : Tables → ℕ → Ending → Step → Course

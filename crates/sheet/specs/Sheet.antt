@@ -1,6 +1,7 @@
--- The bench sheet of document 01: all its rows marked P in one table, and what it means that a row holds. A row says something of the
--- definitions, not of a program: the entries and key links are those that the papers define, and a walk is told of any tables that hold
--- the defined entries (proofs/Computed.antt computes such tables).
+-- The bench sheet of document 01: all its rows marked P in one table, with those of document 02's requests, and what it means that a row
+-- holds. A row says something of the definitions, not of a program: the entries and key links are those that the papers define, and a
+-- step or a walk is told of any tables that hold the defined entries (proofs/Computed.antt computes such tables), where the row does not
+-- bring tables of its own.
 use Prim.Native.Nat.{ℕ}
 use mathlib.Core.Path.{_≡_}
 use mathlib.Core.List.{List, [], _∷_}
@@ -10,13 +11,15 @@ use Rattle.graph.specs.Network.{Network}
 use Rattle.graph.specs.Path.{visits}
 use Rattle.graph.specs.Set.{SetOf}
 use Rattle.graph.specs.Entries.{KeyLink}
-use Rattle.graph.specs.Walk.{Tables, failedBy, Ending, delivered, dropped, exhausted, Course, walkOf}
+use Rattle.graph.specs.Walk.{Tables, failedBy, Step, nothing, stepBy, Ending, delivered, unrouted, dropped, exhausted, Course, walkOf}
 use Rattle.graph.specs.Demand3.{BuiltEntries}
 use Rattle.net.specs.Limits.{reportHops}
 use Rattle.net.specs.Rows.{Rows, networkOf}
 use Rattle.plan.specs.Number.{stored}
 use Rattle.plan.specs.Reader.{readPlan, refusal}
+use Rattle.tables.specs.Lent.{LentTables}
 use Rattle.tables.specs.Entry.{RoutingByte, ForwardingByte, BackwardingByte}
+use Rattle.walk.specs.Lent.{tablesFor, TablesPass}
 
 -- one walk: which link has failed, source, destination and hop limit
 pub record Journey : Type 0 where
@@ -41,6 +44,10 @@ pub data Row : Type 0 where
   backwards : Rows → ℕ → ℕ → ℕ → Row
   -- the walk visits these nodes, its source first, so one more than it has hops, and ends so
   walks : Rows → Journey → List ℕ → Ending → Row
+  -- the same over these tables as they are lent, which pass refusal 16 but need not hold the defined entries
+  walksOver : LentTables → Rows → Journey → List ℕ → Ending → Row
+  -- on arrival over the interface, away from the destination and with no link failed, the step says this
+  steps : Rows → ℕ → ℕ → Step → Row
   -- the number is stored as these bytes
   stores : ℕ → List ℕ → Row
   -- these bytes, as a plan, get this refusal number at this place
@@ -58,6 +65,10 @@ Holds (forwards R h d byte) = ForwardingByte (networkOf R) h d byte
 Holds (backwards R h d byte) = BackwardingByte (networkOf R) h d byte
 Holds (walks R j trace ending) =
     (T : Tables) → BuiltEntries (networkOf R) (j .destination) T → Visits (networkOf R) (j .source) (courseIn R j T) trace ending
+Holds (walksOver T R j trace ending) =
+    TablesPass (networkOf R) T × Visits (networkOf R) (j .source) (courseIn R j (tablesFor R T (j .destination))) trace ending
+Holds (steps R h d step) =
+    (T : Tables) → BuiltEntries (networkOf R) d T → stepBy (failedBy no-link) (T .backwarding) (T .forwarding h) ≡ step
 Holds (stores v bytes) = stored v ≡ bytes
 Holds (refuses s number place) = readPlan s ≡ refusal number place
 
@@ -84,6 +95,23 @@ squarePlan =
 -- "two nodes, their one link"
 unfoldable pub pairPlan : Rows
 pairPlan = record { nodes = 2; low = 0 ∷ []; high = 1 ∷ []; weight = 1 ∷ [] }
+
+-- three nodes in a row, of weight 1
+unfoldable pub chainPlan : Rows
+chainPlan = record { nodes = 3; low = 0 ∷ 1 ∷ []; high = 1 ∷ 2 ∷ []; weight = 1 ∷ 1 ∷ [] }
+
+-- its tables, but for a gap: the forwarding entry of 0 to 1 for 2. The rows are those of nodes 0 to 2, and of 0 to 1, 1 to 0, 1 to 2, 2 to 1.
+unfoldable pub gapTables : LentTables
+gapTables =
+    record {
+      routing = 254 ∷ 1 ∷ 1 ∷ 0 ∷ 254 ∷ 2 ∷ 1 ∷ 1 ∷ 254 ∷ [];
+      forwarding = 0 ∷ 254 ∷ 255 ∷ 254 ∷ 1 ∷ 1 ∷ 1 ∷ 1 ∷ 254 ∷ 0 ∷ 254 ∷ 2 ∷ [];
+      backwarding = 254 ∷ 255 ∷ 255 ∷ 255 ∷ 254 ∷ 2 ∷ 0 ∷ 254 ∷ 255 ∷ 255 ∷ 255 ∷ 254 ∷ [];
+    }
+
+-- three nodes, their one link between the first two
+unfoldable pub partedPlan : Rows
+partedPlan = record { nodes = 3; low = 0 ∷ []; high = 1 ∷ []; weight = 1 ∷ [] }
 
 -- from s to d with one link failed, and with the report's hop limit, which no delivered packet of these networks uses up
 abbrev pub failing : ℕ → ℕ → ℕ → Journey
@@ -112,6 +140,12 @@ rows =
     ∷ routes squarePlan 0 3 1
     -- "two nodes, their one link failed: ending 2, 0 hops."
     ∷ walks pairPlan (failing 0 0 1) (0 ∷ []) dropped
+    -- "A walk over other tables that finds nothing on arrival is told as ending 2" (document 02, L7): 0 to 2, no link failed
+    ∷ walksOver gapTables chainPlan (record { failure = no-link; source = 0; destination = 2; limit = reportHops }) (0 ∷ 1 ∷ []) dropped
+    -- "A single step asked on an arrival that no walk makes still says that there is nothing to follow" (there): at 1 from 0, for 2,
+    -- which the walk from 0 cannot set out for
+    ∷ steps partedPlan 0 2 nothing
+    ∷ walks partedPlan (record { failure = no-link; source = 0; destination = 2; limit = reportHops }) (0 ∷ []) unrouted
     -- "300 is stored as AC 02. 65,535 is FF FF 03; 80 80 04 as weight is refusal 6; 80 00 is 2." The weight stands in a plan of two
     -- nodes and one link, at byte 4; 80 00 stands as a node count.
     ∷ stores 300 (0xAC ∷ 0x02 ∷ [])
