@@ -41,6 +41,12 @@ reports() {
         "$out/compare_reports" "sh run.sh nightplan" "$out/second report" "$out/reports.batch" plans/*.plan
 }
 
+# what the proved programs said of the same plans before parallel links came, they still say
+kept() {
+    "$out/generate" reports 1 1300 > "$out/kept.batch" &&
+        "$out/compare_kept" check "sh run.sh nightplan" "sh run.sh codec" compare/kept.txt "$out/kept.batch" plans/*.plan
+}
+
 # the second program writes what a proved program's stored run has: the proved program, the second program's sub-command
 stored() {
     "$out/second" "$2" < "crates/$1/stdin" > "$out/$1.stored" && cmp "$out/$1.stored" "crates/$1/stdout"
@@ -56,7 +62,7 @@ networks=500
 [ "$(uname -m)" = x86_64 ] || networks=170
 
 if compile second/second.rs second && compile compare/generate/main.rs generate && compile compare/compare.rs compare &&
-    compile compare/compare_reports.rs compare_reports; then
+    compile compare/compare_reports.rs compare_reports && compile compare/compare_kept.rs compare_kept; then
     check "$out/second" selftest
     check stored codec codec
     check stored answers tables
@@ -65,6 +71,7 @@ if compile second/second.rs second && compile compare/generate/main.rs generate 
     check records answers tables "$networks" answers tables
     check rules answers
     check reports
+    check kept
     for name in full ring bare; do
         check example "$name"
     done
