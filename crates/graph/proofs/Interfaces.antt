@@ -71,6 +71,10 @@ module _ (N : Network) (W : WellFormed N) (f : ℕ) (up : N .Present (link f)) w
       ]
 
 -- "Interface 2k is link k entered from the low end towards the high end; interface 2k + 1 is the other direction."
+pub two-sides : (f : ℕ) → (f ≡ 2 * link f) ⊎ (f ≡ 2 * link f + 1)
+unfolding link
+two-sides f = elim (ℕ-discrete (f % 2) 0) [ yes even ↦ inl (omega arith) | no odd ↦ inr (omega arith) ]
+
 module _ (k : ℕ) where
   pub reverse-from-low : reverse (2 * k) ≡ 2 * k + 1
   unfolding reverse

@@ -5,7 +5,6 @@ pub mod Simple
 pub mod Order
 pub mod Unique
 pub mod Agreement
-pub mod Named
 pub mod Rounds
 pub mod Finished
 pub mod Restart

@@ -8,7 +8,8 @@ use Rattle.graph.specs.Network.{Network, link, reverse, tail, head}
 use Rattle.graph.specs.Path.{Path, Over, BestPath, All, But}
 
 -- "An entry is one byte: a node; 254 where d is the deciding node itself (the check for 254 comes first); 255 where no path exists."
--- Here the node is told by the interface that leads to it.
+-- "A next node no longer says which fibre, so the routing look-up now promises a link number" (document 02, L5). Here the link is told by
+-- the interface that leads over it from the deciding node.
 pub data Hop : Type 0 where
   here : Hop
   onward : ℕ → Hop
@@ -26,7 +27,8 @@ RoutingEntry N d i = Entry N All i d
 
 -- "Key links of interface j to i for d: every link u-v, in either of its directions taken as u to v, such that with all links
 -- present j is the routing entry of i for d, and without that link the best path from u to d crosses from j to i."
--- The interface is h; the direction of the link k is `from`, which leaves u.
+-- "Key links ask that the interface's own link, taken backwards, is the routing entry, and that the path crosses that link" (document
+-- 02, L5). The interface is h; the direction of the link k is `from`, which leaves u.
 pub record KeyLink (N : Network) (d h k : ℕ) : Type 0 where
   pub present : N .Present k
   pub onward : List ℕ
@@ -50,6 +52,7 @@ abbrev pub Aside : Network → ℕ → ℕ → ℕ → Type 0
 Aside N d h k = But (link h) k × Free N d h k
 
 -- "Backwarding entry of interface i to j for d: the first node on the best path from i to d when link i-j is taken out." "Source
--- document 000 also takes out the interface's key links. Adopt that rule." (document 02, L2)
+-- document 000 also takes out the interface's key links. Adopt that rule." (document 02, L2) Of parallel links i-j, "backwarding entries
+-- take out that link alone" which is the interface's own (document 02, L5).
 abbrev pub BackwardingEntry : Network → ℕ → ℕ → Hop → Type 0
 BackwardingEntry N d h = Entry N (Aside N d h) (tail N h) d

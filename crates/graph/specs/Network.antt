@@ -1,6 +1,5 @@
 -- A network: nodes, links and interfaces, as document 01 numbers them ("Nodes, links, interfaces"). No limit stands here.
-use mathlib.Core.Path.{_≡_}
-use mathlib.Core.Logic.{_≢_, _⊎_}
+use mathlib.Core.Logic.{_≢_}
 use Prim.Native.Nat.{ℕ, zero, suc, _+_, _*_, _-_, _/_, _%_, _<_}
 
 -- "A link joins a low node to a higher one, with one weight for both directions." `Present` says which links paths may use; all of
@@ -22,14 +21,6 @@ pub record WellFormed (N : Network) : Type 0 where
   pub ends-differ : (k : ℕ) → N .Present k → N .low k ≢ N .high k
   pub weighs : (k : ℕ) → N .Present k → 0 < N .weight k
   pub present? : (k : ℕ) → Dec (N .Present k)
-
--- the two links join one pair of nodes, either way round
-abbrev pub SameEnds : Network → ℕ → ℕ → Type 0
-SameEnds N k l = ((N .low k ≡ N .low l) × (N .high k ≡ N .high l)) ⊎ ((N .low k ≡ N .high l) × (N .high k ≡ N .low l))
-
--- "At most one link joins a pair." The theorems that tell an interface by its two nodes ask for it; no other does.
-abbrev pub SingleLinks : Network → Type 0
-SingleLinks N = (k l : ℕ) → N .Present k → N .Present l → SameEnds N k l → k ≡ l
 
 -- "Interface 2k is link k entered from the low end towards the high end; interface 2k + 1 is the other direction."
 unfoldable pub link : ℕ → ℕ

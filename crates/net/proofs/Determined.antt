@@ -12,6 +12,7 @@ use Rattle.net.proofs.check.end_at.Reads as end-at-contract
 use Rattle.net.proofs.check.bad_weight.Reads as bad-weight-contract
 use Rattle.net.proofs.check.bad_node_count.Reads as bad-node-count-contract
 use Rattle.net.proofs.check.unplaced.Reads as unplaced-contract
+use Rattle.net.proofs.entry.onward.Reads as onward-contract
 use Rattle.net.proofs.failure.fails.Reads as fails-contract
 use Rattle.net.proofs.failure.blocked.Reads as blocked-contract
 use Rattle.net.proofs.failure.failure_number.Reads as failure-number-contract
@@ -56,6 +57,9 @@ bad-node-count a inputs x y e f p q = agree p q
 
 pub unplaced : Determined unplaced-contract.Learnt
 unplaced a inputs x y e f p q = agree p q
+
+pub onward : Determined onward-contract.Learnt
+onward a inputs x y e f p q = agree p q
 
 pub fails : Determined fails-contract.Learnt
 fails a inputs x y e f p q = agree p q

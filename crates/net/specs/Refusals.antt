@@ -65,6 +65,6 @@ abbrev pub traceLength : ℕ
 traceLength = 15
 
 -- "in a table lent to a step or walk, some entry for the deciding node itself isn't 254, or some other entry is neither 255 nor a
--- neighbour of the deciding node"
+-- neighbour of the deciding node"; "Refusal 16 asks for a link at the deciding node in place of a neighbour" (document 02, L5)
 abbrev pub tableEntry : ℕ
 tableEntry = 16

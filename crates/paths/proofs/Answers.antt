@@ -1,19 +1,19 @@
 -- What `best_path` answers from an entry of a column: the measures of the best path, and the routing entry as a byte.
-use Prim.Native.Nat.{ℕ, _%_}
+use Prim.Native.Nat.{ℕ}
 use mathlib.Core.Bool.{true, false}
 use mathlib.Core.Path.{_≡_, refl}
 use mathlib.Core.Logic.{_≢_}
 use mathlib.Core.List.{List, []}
 use native.Mathlib.Omega.{arith}
 use lib.ListN.{length, getD}
-use Rattle.graph.specs.Network.{Network, WellFormed}
+use Rattle.graph.specs.Network.{Network, WellFormed, link}
 use Rattle.graph.specs.Path.{stop, Over.none as over-none, All, weightSum}
 use Rattle.graph.proofs.Chain.{Best}
 use Rattle.graph.proofs.Simple.{simple}
 use Rattle.graph.proofs.Agreement.{best-path}
 use Rattle.graph.proofs.Sets.{set-of-path}
 use Rattle.net.specs.Entry.{nowhereByte, EntryByte}
-use Rattle.net.specs.Rows.{Rows, networkOf, headOf}
+use Rattle.net.specs.Rows.{Rows, networkOf}
 use Rattle.net.specs.Check.{Accepted}
 use Rattle.net.specs.Limits.{mostNodes}
 use Rattle.net.specs.inner.LinkSet.{value}
@@ -47,12 +47,12 @@ module _ (N : Network) (W : WellFormed N) {s d : ℕ} where
       of-path (best-path N W t) refl (set-of-path W (simple N W t))
 
 module _ (R : Rows) (A : Accepted R) {X : ℕ → Type 0} {i d : ℕ} where
-  -- away from the destination a known entry gives a node, an unknown one none
+  -- away from the destination a known entry gives a link, an unknown one none
   module _ {c : Cost} (shown : Shows (networkOf R) X i d c) (away : i ≢ d) where
-    pub known-byte : isKnown c ≡ true → EntryByte (networkOf R) X i d (headOf (R .low) (R .high) (c .first) % 256)
+    pub known-byte : isKnown c ≡ true → EntryByte (networkOf R) X i d (link (c .first))
     known-byte known =
         elim (shown-tells (networkOf R) (well-formed R A) shown away) [
-          | leads h entry ↦ onward-byte R (well-formed R A) (A .few-nodes) entry
+          | leads h entry ↦ onward-byte entry
           | leads-nowhere h entry ↦ absurd (omega (arith, known-true c .0 known))
         ]
 

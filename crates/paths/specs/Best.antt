@@ -24,8 +24,8 @@ pub data Measures (N : Network) (s d sum set : ℕ) : Type 0 where
   of-path : {p : List ℕ} → BestPath N All s p d → sum ≡ weightSum N p → SetOf (N .links) (λ k. Lies k p) set → Measures N s d sum set
   of-none : ((p : List ℕ) → Path N s p d → Over All p → ⊥) → sum ≡ 0 → set ≡ 0 → Measures N s d sum set
 
--- "Refused answers carry 0 in every part not named here"; else the best path's measures, and its routing entry: "the first node after i
--- on the best path"
+-- "Refused answers carry 0 in every part not named here"; else the best path's measures, and its routing entry: "the routing look-up now
+-- promises a link number" (document 02, L5)
 pub record BestPathAnswer (R : Rows) (s d : ℕ) (r : Answer) : Type 0 where
   pub number : r .number ≡ bestPathVerdict R s d .number
   pub place : r .place ≡ bestPathVerdict R s d .place

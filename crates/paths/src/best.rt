@@ -3,12 +3,10 @@ ghost use mathlib.Core.Path.{_≡_};
 ghost use Rattle.paths.specs.Best.{bestPathVerdict, BestPathAnswer};
 use crate::column::column_of;
 use crate::cost::known;
-use net::Interface;
 use net::Node;
 use net::Verdict;
 use net::check_network;
 use net::entry;
-use net::head_of;
 use net::link_set;
 use net::refusal;
 use net::unplaced;
@@ -82,14 +80,13 @@ pub fn best_path(
         };
     }
     if known(cost) {
-        let next = head_of(Interface(cost.first as usize), low, high);
         let links = cost.links;
         return BestPath {
             number: refusal::NONE,
             place: 0,
             sum: cost.sum,
             links: link_set::number_of(links),
-            entry: (next.0 % 256) as u8,
+            entry: entry::onward(cost.first),
         };
     }
     BestPath {

@@ -2,7 +2,6 @@
 -- Where nothing is refused, network and tables are as the walks ask.
 use mathlib.Core.Path.{_≡_}
 use mathlib.Core.Logic.{_≢_}
-use mathlib.Core.List.{List}
 use Prim.Native.Nat.{ℕ}
 use borrow.Author.Tests.{eq-eqb, ne-eqb}
 use lib.ListN.{length}
@@ -13,17 +12,15 @@ use Rattle.net.specs.declared.check.Verdict.{Verdict}
 use Rattle.net.specs.declared.failure.Failure.{Failure}
 use Rattle.tables.specs.Lent.{LentTables}
 use Rattle.walk.specs.Lent.{lentVerdict}
-use Rattle.walk.specs.inner.Neighbours.{Neighbours, Ready}
+use Rattle.walk.specs.inner.Reading.{Ready}
 use Rattle.walk.proofs.Verdicts.{lent-network, lent-long}
 use Rattle.report.specs.Line.{noLine, lineOf, figuresBy, figuresAnswer}
 use Rattle.report.specs.Lines.{linesOver, linesHeld, linesRefused, linesAnswer}
 use Rattle.report.specs.declared.counting.Line.{Line}
 
 module _ (R : Rows) (T : LentTables) where
-  pub ready : (number : ℕ) {v : Verdict} {map : List ℕ} → v ≡ lentVerdict R T number → v .number ≡ accepted → Neighbours R map
-      → Ready R T map
-  ready number judged fine found =
-      record { network = lent-network R T number judged fine; neighbours = found; long = lent-long R T number judged fine }
+  pub ready : (number : ℕ) {v : Verdict} → v ≡ lentVerdict R T number → v .number ≡ accepted → Ready R T
+  ready number judged fine = record { network = lent-network R T number judged fine; long = lent-long R T number judged fine }
 
   -- a failure line
   module _ (failure : Failure) {v : Verdict} (judged : v ≡ lentVerdict R T (failureNumber (length (R .low)) failure)) where

@@ -2,7 +2,7 @@
 ghost use mathlib.Core.Path.{_≡_};
 ghost use Rattle.report.specs.Line.{noLine, lineOf, figuresAnswer};
 ghost use Rattle.report.specs.inner.Counting.{courseAt, countedLine, lineBelow, OneMore, Source};
-ghost use Rattle.walk.specs.inner.Neighbours.{Ready};
+ghost use Rattle.walk.specs.inner.Reading.{Ready};
 use net::Failure;
 use net::Node;
 use net::failure_number;
@@ -12,7 +12,6 @@ use walk::inner::DELIVERED;
 use walk::inner::Outcome;
 use walk::inner::Question;
 use walk::inner::lent_verdict;
-use walk::inner::neighbours;
 use walk::inner::walk_from;
 
 pub struct Line {
@@ -68,7 +67,6 @@ fn counted(line: Line, outcome: Outcome) -> Line
 // The walks from one source, over tables that have been checked.
 fn line_from(
     line: Line,
-    map: &[u8],
     n: usize,
     low: &[u8],
     high: &[u8],
@@ -82,7 +80,7 @@ fn line_from(
 ) -> Line
     requires { ⌜ Source (record { nodes = n; low = now low; high = now high; weight = now weight })
         (record { routing = now routing; forwarding = now forwarding; backwarding = now backwarding })
-        (now map) (source .0) line (now trace) ⌝ }
+        (source .0) line (now trace) ⌝ }
     ensures { λ r. ⌜ r ≡ lineBelow n (source .0)
         (courseAt (record { nodes = n; low = now (low .entry); high = now (high .entry); weight = now (weight .entry) })
         (record { routing = now (routing .entry); forwarding = now (forwarding .entry); backwarding = now (backwarding .entry) })
@@ -97,7 +95,6 @@ fn line_from(
                 failure: failure,
             };
             let outcome = walk_from(
-                map,
                 n,
                 low,
                 high,
@@ -120,7 +117,6 @@ fn line_from(
 
 // All walks of a failure, over tables that have been checked.
 pub fn line_of(
-    map: &[u8],
     n: usize,
     low: &[u8],
     high: &[u8],
@@ -131,7 +127,7 @@ pub fn line_of(
     failure: Failure,
 ) -> Line
     requires { ⌜ Ready (record { nodes = n; low = now low; high = now high; weight = now weight })
-        (record { routing = now routing; forwarding = now forwarding; backwarding = now backwarding }) (now map) ⌝ }
+        (record { routing = now routing; forwarding = now forwarding; backwarding = now backwarding }) ⌝ }
     ensures { λ r. ⌜ r ≡ lineOf (record { nodes = n; low = now (low .entry); high = now (high .entry); weight = now (weight .entry) })
         (record { routing = now (routing .entry); forwarding = now (forwarding .entry); backwarding = now (backwarding .entry) })
         failure ⌝ }
@@ -142,7 +138,6 @@ pub fn line_of(
     while s < n {
         let more = line_from(
             line,
-            map,
             n,
             low,
             high,
@@ -193,12 +188,10 @@ pub fn failure_line(
             line: no_walks(),
         };
     }
-    let map = neighbours(n, low, high, weight);
     Figures {
         number: refusal::NONE,
         place: 0,
         line: line_of(
-            &map,
             n,
             low,
             high,

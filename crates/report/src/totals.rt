@@ -3,7 +3,7 @@ ghost use mathlib.Core.Path.{_≡_};
 ghost use lib.ListN.{length};
 ghost use Rattle.report.specs.Line.{lineOf};
 ghost use Rattle.report.specs.Lines.{linesOver, linesHeld, linesRefused, linesAnswer};
-ghost use Rattle.walk.specs.inner.Neighbours.{Ready};
+ghost use Rattle.walk.specs.inner.Reading.{Ready};
 use crate::counting::Line;
 use crate::counting::line_of;
 use crate::counting::no_walks;
@@ -13,7 +13,6 @@ use net::Verdict;
 use net::limit;
 use net::refusal;
 use walk::inner::lent_verdict;
-use walk::inner::neighbours;
 
 // Line 0 is that without failure, line k + 1 that of link k; the places past the last are 0, and so is everything after a refusal.
 pub struct Lines {
@@ -41,7 +40,6 @@ fn refused(verdict: Verdict) -> Lines
 }
 
 fn lines_of(
-    map: &[u8],
     n: usize,
     low: &[u8],
     high: &[u8],
@@ -51,7 +49,7 @@ fn lines_of(
     backwarding: &[u8],
 ) -> Lines
     requires { ⌜ Ready (record { nodes = n; low = now low; high = now high; weight = now weight })
-        (record { routing = now routing; forwarding = now forwarding; backwarding = now backwarding }) (now map) ⌝ }
+        (record { routing = now routing; forwarding = now forwarding; backwarding = now backwarding }) ⌝ }
     ensures { λ r. ⌜ r ≡ linesHeld (length (now (low .entry)))
         (linesOver (length (now (low .entry)))
         (lineOf (record { nodes = n; low = now (low .entry); high = now (high .entry); weight = now (weight .entry) })
@@ -60,7 +58,6 @@ fn lines_of(
     let none = no_walks();
     let mut lines = [none; limit::LINKS + 1];
     let first = line_of(
-        map,
         n,
         low,
         high,
@@ -77,7 +74,6 @@ fn lines_of(
     let mut k: usize = 0;
     while k < links {
         let line = line_of(
-            map,
             n,
             low,
             high,
@@ -127,6 +123,5 @@ pub fn all_lines(
     if verdict.number != refusal::NONE {
         return refused(verdict);
     }
-    let map = neighbours(n, low, high, weight);
-    lines_of(&map, n, low, high, weight, routing, forwarding, backwarding)
+    lines_of(n, low, high, weight, routing, forwarding, backwarding)
 }

@@ -32,7 +32,7 @@ use Rattle.paths.specs.inner.Rounds.{roundFrom, roundOf, roundsFrom, settled, b
 use Rattle.tables.specs.inner.KeyTest.{crossesLink, keyTest}
 use Rattle.tables.specs.inner.Detours.{dearerOf, noted, nothingKept, keysFor, forwardCost}
 use Rattle.tables.proofs.Tests.{both-true}
-use Rattle.walk.specs.Lent.{interfaceFrom, interfaceTo, leads, hopAt, tablesFor, allBelow, leadsOn, bytePasses, tablePasses, tablesPass}
+use Rattle.walk.specs.Lent.{leaving, hopAt, tablesFor, allBelow, leadsOn, bytePasses, tablePasses, tablesPass}
 use Rattle.walk.proofs.EntriesPass.{passes-exactly}
 use Rattle.sheet.specs.Sheet.{Journey, courseIn, planA, squarePlan, pairPlan, chainPlan, gapTables, partedPlan}
 use Rattle.sheet.specs.Sheet.{Row, routes, keys, forwards, backwards, walks, walksOver, steps, stores, refuses, Holds}
@@ -53,7 +53,7 @@ fits (keys R h d set) = within R d (link h) (length (R .low))
 fits (forwards R h d byte) = within R d (link h) (length (R .low))
 fits (backwards R h d byte) = within R d (link h) (length (R .low))
 fits (walks R j trace ending) = within R (j .destination) (j .source) (R .nodes)
-fits (walksOver T R j trace ending) = both (within R (j .destination) (j .source) (R .nodes)) (tablesPass R T)
+fits (walksOver T R j trace ending) = both (within R (j .destination) (j .source) (R .nodes)) (tablesPass (R .nodes) (R .low) (R .high) T)
 fits (steps R h d step) = within R d (link h) (length (R .low))
 fits (stores v bytes) = true
 fits (refuses s number place) = true
@@ -88,10 +88,10 @@ courseOver T R j =
     course (visits (networkOf R) (j .source) (c .crossed)) (c .ending)
 
 unfoldable pub answered : Row → Answer
-answered (routes R i d byte) = value (byteOf (networkOf R) (routed R d i))
+answered (routes R i d byte) = value (byteOf (routed R d i))
 answered (keys R h d set) = value (setValue (keysOf R d h))
-answered (forwards R h d byte) = value (byteOf (networkOf R) (forwarded R d h))
-answered (backwards R h d byte) = value (byteOf (networkOf R) (backwarded R d h))
+answered (forwards R h d byte) = value (byteOf (forwarded R d h))
+answered (backwards R h d byte) = value (byteOf (backwarded R d h))
 answered (walks R j trace ending) = courseOver (computed R (j .destination)) R j
 answered (walksOver T R j trace ending) = courseOver (tablesFor R T (j .destination)) R j
 answered (steps R h d step) = said (stepBy (failedBy no-link) (computed R d .backwarding) (computed R d .forwarding h))
@@ -166,7 +166,7 @@ unfolding rows allFit fits within given answered courseOver
     startColumn offer linkOffers makesOffers offeringFrom offeringLinks turnOf roundFrom roundOf roundsFrom settled blankFrom blanked
     crossesLink keyTest dearerOf noted nothingKept keysFor forwardCost
     told costBut costAll routed keptBelow keysOf forwarded backwarded computed
-    interfaceFrom interfaceTo leads hopAt tablesFor allBelow leadsOn bytePasses tablePasses tablesPass
+    leaving hopAt tablesFor allBelow leadsOn bytePasses tablePasses tablesPass
     groupsOf stored groupsFrom numberAt refusal takeWeight weightAt takeDifference differenceAt takeLow linkAt takeLink linksRead
     takeLinkCount linkCountAt takeNodeCount readPlan
 bench-sheet = all-hold rows refl refl

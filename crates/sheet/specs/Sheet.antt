@@ -104,9 +104,9 @@ chainPlan = record { nodes = 3; low = 0 ∷ 1 ∷ []; high = 1 ∷ 2 ∷ []; wei
 unfoldable pub gapTables : LentTables
 gapTables =
     record {
-      routing = 254 ∷ 1 ∷ 1 ∷ 0 ∷ 254 ∷ 2 ∷ 1 ∷ 1 ∷ 254 ∷ [];
-      forwarding = 0 ∷ 254 ∷ 255 ∷ 254 ∷ 1 ∷ 1 ∷ 1 ∷ 1 ∷ 254 ∷ 0 ∷ 254 ∷ 2 ∷ [];
-      backwarding = 254 ∷ 255 ∷ 255 ∷ 255 ∷ 254 ∷ 2 ∷ 0 ∷ 254 ∷ 255 ∷ 255 ∷ 255 ∷ 254 ∷ [];
+      routing = 254 ∷ 0 ∷ 0 ∷ 0 ∷ 254 ∷ 1 ∷ 1 ∷ 1 ∷ 254 ∷ [];
+      forwarding = 0 ∷ 254 ∷ 255 ∷ 254 ∷ 0 ∷ 0 ∷ 1 ∷ 1 ∷ 254 ∷ 0 ∷ 254 ∷ 1 ∷ [];
+      backwarding = 254 ∷ 255 ∷ 255 ∷ 255 ∷ 254 ∷ 1 ∷ 0 ∷ 254 ∷ 255 ∷ 255 ∷ 255 ∷ 254 ∷ [];
     }
 
 -- three nodes, their one link between the first two
@@ -119,15 +119,15 @@ failing link s d = record { failure = one-link link; source = s; destination = d
 
 unfoldable pub rows : List Row
 rows =
-    -- "routing entry of 0 for 3 is 1."
-    routes planA 0 3 1
+    -- "routing entry of 0 for 3 is 1." "Bench rows that give an entry then give its link." (document 02, L5) 0-1 is link 0.
+    routes planA 0 3 0
     -- "key links of 1 to 0 for 3 are links 3 and 4 (set value 24)."
     ∷ keys planA 1 3 24
-    -- "forwarding 1 to 0 for 3 is 3; P: forwarding 2 to 0 for 3 is 1."
-    ∷ forwards planA 1 3 3
-    ∷ forwards planA 3 3 1
-    -- "backwarding 0 to 1 for 3 is 2"; "Backwarding 1 to 0 for 3 becomes 255 and that bench row changes." (document 02, L2)
-    ∷ backwards planA 0 3 2
+    -- "forwarding 1 to 0 for 3 is 3; P: forwarding 2 to 0 for 3 is 1." By links, 0-3 and 0-1.
+    ∷ forwards planA 1 3 2
+    ∷ forwards planA 3 3 0
+    -- "backwarding 0 to 1 for 3 is 2", by link 0-2; "Backwarding 1 to 0 for 3 becomes 255 and that bench row changes." (document 02, L2)
+    ∷ backwards planA 0 3 1
     ∷ backwards planA 1 3 255
     -- "0 to 3, link 1-2 failed: 0 1 0 3, though 0 2 3 would be cheaper after 0."
     ∷ walks planA (failing 3 0 3) (0 ∷ 1 ∷ 0 ∷ 3 ∷ []) delivered
@@ -136,8 +136,8 @@ rows =
     ∷ walks planA (record { failure = one-link 4; source = 0; destination = 3; limit = 4 }) (0 ∷ 1 ∷ 2 ∷ 1 ∷ 0 ∷ []) exhausted
     -- "source equals destination: delivered, 0 hops."
     ∷ walks planA (record { failure = no-link; source = 0; destination = 0; limit = reportHops }) (0 ∷ []) delivered
-    -- "square 0-1, 0-2, 1-3, 2-3, all weight 1: routing entry of 0 for 3 is 1."
-    ∷ routes squarePlan 0 3 1
+    -- "square 0-1, 0-2, 1-3, 2-3, all weight 1: routing entry of 0 for 3 is 1." By link, 0-1.
+    ∷ routes squarePlan 0 3 0
     -- "two nodes, their one link failed: ending 2, 0 hops."
     ∷ walks pairPlan (failing 0 0 1) (0 ∷ []) dropped
     -- "A walk over other tables that finds nothing on arrival is told as ending 2" (document 02, L7): 0 to 2, no link failed

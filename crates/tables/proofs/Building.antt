@@ -23,10 +23,10 @@ row-room {rows} n row below whole = omega (arith, suc-mul row n, mul-le-mul-righ
 
 -- The part from the row's place on, filled by the costs of node i, is one row more. The code names the part by its two ends.
 pub filled-row : {n rows : ℕ} {Byte : ℕ → ℕ → ℕ → Type 0} {before after : List ℕ} → Filled n rows Byte before after
-    → {from : ℕ} → from ≡ rows * n → from + n ≤ length before → (low high : List ℕ) (i : ℕ) (costs : List Cost)
-    → ((d : ℕ) → d < n → Byte rows d (getD (entryRow n low high i 0 costs) d 0))
-    → {row : List ℕ} → row ≡ entryRow n low high i 0 costs
+    → {from : ℕ} → from ≡ rows * n → from + n ≤ length before → (i : ℕ) (costs : List Cost)
+    → ((d : ℕ) → d < n → Byte rows d (getD (entryRow n i 0 costs) d 0))
+    → {row : List ℕ} → row ≡ entryRow n i 0 costs
     → Filled n (rows + 1) Byte before (putMid from (from + n - from) after row)
-filled-row {n} {rows} {after = after} F place room low high i costs right is =
+filled-row {n} {rows} {after = after} F place room i costs right is =
     rw (place, is, add-one rows, post-is (rows * n) (rows * n + n) after (omega arith))
-    (filled-more F (omega (arith, suc-mul rows n)) (entryRow n low high i 0 costs) (entry-row-length low high i costs n 0) right)
+    (filled-more F (omega (arith, suc-mul rows n)) (entryRow n i 0 costs) (entry-row-length i costs n 0) right)

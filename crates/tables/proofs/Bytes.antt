@@ -1,4 +1,4 @@
--- The bytes that the code writes are the entries: where a cost tells an entry, the head of its first interface is the byte.
+-- The bytes that the code writes are the entries: where a cost tells an entry, the link of its first interface is the byte.
 use Prim.Native.Nat.{ℕ, _<_}
 use mathlib.Core.Path.{_≡_}
 use mathlib.Core.Logic.{_≢_}
@@ -26,23 +26,23 @@ use Rattle.tables.specs.inner.Detours.{forwardCost, keptFor, keptAt, Squ
 use Rattle.tables.proofs.Forwarding.{forward-tells}
 
 module _ (R : Rows) (A : Accepted R) where
-  open Rows R using (nodes as n, low, high)
+  open Rows R using (nodes as n, low)
 
   W : WellFormed (networkOf R)
   W = well-formed R A
 
   module _ {X : ℕ → Type 0} {i d : ℕ} (c : Cost) where
-    at-destination-byte : i ≡ d → EntryByte (networkOf R) X i d (entryByte low high i d c)
+    at-destination-byte : i ≡ d → EntryByte (networkOf R) X i d (entryByte i d c)
     unfolding entryByte
     at-destination-byte e = rw (eq-eqb i d e) (here-byte e)
 
     tells-byte : i ≢ d → Tells (networkOf R) X i d c
-        → EntryByte (networkOf R) X i d (entryByte low high i d c)
+        → EntryByte (networkOf R) X i d (entryByte i d c)
     unfolding entryByte
     tells-byte away (leads-nowhere h entry) = rw (ne-eqb i d away, known-false c .1 h) (nowhere-byte entry)
-    tells-byte away (leads h entry) = rw (ne-eqb i d away, known-true c .1 h) (onward-byte R W (A .few-nodes) entry)
+    tells-byte away (leads h entry) = rw (ne-eqb i d away, known-true c .1 h) (onward-byte entry)
 
-    pub shown-byte : Shows (networkOf R) X i d c → EntryByte (networkOf R) X i d (entryByte low high i d c)
+    pub shown-byte : Shows (networkOf R) X i d c → EntryByte (networkOf R) X i d (entryByte i d c)
     shown-byte shown =
         elim (ℕ-discrete i d) [
           | yes e ↦ at-destination-byte e
@@ -51,13 +51,13 @@ module _ (R : Rows) (A : Accepted R) where
 
   -- routing, by the square over all links
   pub routing-byte : (all : List (List Cost)) → BestSquare (networkOf R) All all → {i d : ℕ} → i < n → d < n
-      → RoutingByte (networkOf R) i d (entryByte low high i d (cell all i d))
+      → RoutingByte (networkOf R) i d (entryByte i d (cell all i d))
   routing-byte all whole {i} {d} node destination = shown-byte (cell all i d) (whole d destination .shows i node)
 
   -- without the interface's own link alone, by the square without it
   pub own-byte : (without : List (List Cost)) (h : ℕ) → Present R (link h) → BestSquare (networkOf R) (But (link h)) without
       → {i d : ℕ} → tail (networkOf R) h ≡ i → d < n
-      → OwnByte (networkOf R) h d (entryByte low high i d (cell without i d))
+      → OwnByte (networkOf R) h d (entryByte i d (cell without i d))
   own-byte without h up less {i} {d} is destination =
       let N = networkOf R in
       rw (← is) (shown-byte _ (less d destination .shows (tail N h) (tail-node N W h up)))
@@ -66,7 +66,7 @@ module _ (R : Rows) (A : Accepted R) where
   pub forward-byte : (all : List (List Cost)) (kept : List (List Kept)) → BestSquare (networkOf R) All all
       → SquareKept (networkOf R) (length low) all kept → (h : ℕ) → Present R (link h)
       → {i d : ℕ} → head (networkOf R) h ≡ i → d < n
-      → ForwardingByte (networkOf R) h d (entryByte low high i d (forwardCost h (cell all i d) (keptAt (keptFor kept d) i)))
+      → ForwardingByte (networkOf R) h d (entryByte i d (forwardCost h (cell all i d) (keptAt (keptFor kept d) i)))
   forward-byte all kept whole keeps h up {i} {d} is destination =
       let N = networkOf R in
       let node = head-node N W h up in

@@ -25,7 +25,7 @@ use Rattle.tables.specs.declared.key.KeyLinks.{KeyLinks}
 use Rattle.tables.proofs.Lengths.{long-tables}
 
 -- a byte that is an entry's is the byte of the only one
-the-entry : {N : Network} → WellFormed N → {X : ℕ → Type 0} {i d byte : ℕ} → EntryByte N X i d byte → TheEntry N (Entry N X i d) byte
+the-entry : {N : Network} → WellFormed N → {X : ℕ → Type 0} {i d byte : ℕ} → EntryByte N X i d byte → TheEntry (Entry N X i d) byte
 the-entry {N} W t = record { hop = t .hop; defined = t .entry; only = λ other e. entry-one N W e (t .entry); is = t .is }
 
 module _ (R : Rows) (A : Accepted R) where

@@ -13,12 +13,12 @@ use Rattle.paths.specs.declared.cost.Cost.{Cost}
 use Rattle.paths.proofs.Shape.{read-at}
 use Rattle.tables.specs.inner.EntryRow.{entryByte, entryRow}
 
-module _ (n : ℕ) (low high : List ℕ) (i : ℕ) (costs : List Cost) (row : List ℕ) where
+module _ (n i : ℕ) (costs : List Cost) (row : List ℕ) where
   -- what a row holds once the first d entries are written
   abbrev pub writtenTo : ℕ → List ℕ
-  writtenTo d = take d row ++ entryRow (n - d) low high i d costs
+  writtenTo d = take d row ++ entryRow (n - d) i d costs
 
-  pub row-begin : entryRow n low high i 0 costs ≡ writtenTo 0
+  pub row-begin : entryRow n i 0 costs ≡ writtenTo 0
   row-begin = rw sub-zero
 
   pub row-done : (d : ℕ) → length row ≡ n → n ≤ d → writtenTo d ≡ row
@@ -27,12 +27,12 @@ module _ (n : ℕ) (low high : List ℕ) (i : ℕ) (costs : List Cost) (row : Li
       let none : n - d ≡ 0 = omega arith in
       rw (none, append-nil) (take-all d row (omega arith))
 
-pub row-on : (n : ℕ) (low high : List ℕ) (i : ℕ) (costs : List Cost) (row : List ℕ) (d byte : ℕ) (past : Cost)
-    → length row ≡ n → d < n → d < length costs → byte ≡ entryByte low high i d (getD costs d past)
-    → writtenTo n low high i costs row d ≡ writtenTo n low high i costs (set row d byte) (d + 1)
+pub row-on : (n i : ℕ) (costs : List Cost) (row : List ℕ) (d byte : ℕ) (past : Cost)
+    → length row ≡ n → d < n → d < length costs → byte ≡ entryByte i d (getD costs d past)
+    → writtenTo n i costs row d ≡ writtenTo n i costs (set row d byte) (d + 1)
 unfolding entryRow
-row-on n low high i costs row d byte past long h inside e =
+row-on n i costs row d byte past long h inside e =
     let more : n - d ≡ suc (n - suc d) = omega arith in
-    let is : entryByte low high i d (entryAt costs d) ≡ byte =
-    sym (e ∙ ap (entryByte low high i d) (read-at costs d inside past)) in
+    let is : entryByte i d (entryAt costs d) ≡ byte =
+    sym (e ∙ ap (entryByte i d) (read-at costs d inside past)) in
     rw (add-one, more, is, take-suc-set row d byte (omega arith), append-assoc) refl

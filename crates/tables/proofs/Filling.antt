@@ -87,14 +87,14 @@ module _ {n : ℕ} {Byte : ℕ → ℕ → ℕ → Type 0} where
           rw place (rw (getD-drop (rows * n) x (i - rows * n) 0, getD-drop (rows * n) y (i - rows * n) 0) at same)
 
 -- the row of node i, as long as asked, with the byte of each destination in its place
-module _ (low high : List ℕ) (i : ℕ) (costs : List Cost) where
-  pub entry-row-length : (left d : ℕ) → length (entryRow left low high i d costs) ≡ left
+module _ (i : ℕ) (costs : List Cost) where
+  pub entry-row-length : (left d : ℕ) → length (entryRow left i d costs) ≡ left
   unfolding entryRow
   entry-row-length zero d = refl
   entry-row-length (suc left) d = ap suc (entry-row-length left (suc d))
 
   entry-row-from : (left d e : ℕ) → e < left
-      → getD (entryRow left low high i d costs) e 0 ≡ entryByte low high i (d + e) (entryAt costs (d + e))
+      → getD (entryRow left i d costs) e 0 ≡ entryByte i (d + e) (entryAt costs (d + e))
   unfolding entryRow
   entry-row-from zero d e h = absurd (omega arith)
   entry-row-from (suc left) d zero h = rw (add-zero d)
@@ -102,5 +102,5 @@ module _ (low high : List ℕ) (i : ℕ) (costs : List Cost) where
       let place : suc d + e ≡ d + suc e = omega arith in
       rw (← place) (entry-row-from left (suc d) e (omega arith))
 
-  pub entry-row-at : {n d : ℕ} → d < n → getD (entryRow n low high i 0 costs) d 0 ≡ entryByte low high i d (entryAt costs d)
+  pub entry-row-at : {n d : ℕ} → d < n → getD (entryRow n i 0 costs) d 0 ≡ entryByte i d (entryAt costs d)
   entry-row-at {n} {d} h = rw (zero-add d) at (entry-row-from n 0 d h)

@@ -67,7 +67,7 @@ module _ (N : Network) (W : WellFormed N) {d : ℕ} (h : ℕ) where
 pub aside-byte : {R : Rows} {h d : ℕ} {all : List Cost} {keys : LinkSet} → KeysKnown R h d all keys
     → {out : LinkSet} → out ≡ withLink keys (link h) → {without : List Cost} → Restarted (networkOf R) out all without
     → length without ≡ mostNodes → {j : ℕ} → j ≡ tailOf (R .low) (R .high) h → (past : Cost)
-    → BackwardingByte (networkOf R) h d (entryByte (R .low) (R .high) j d (getD without j past))
+    → BackwardingByte (networkOf R) h d (entryByte j d (getD without j past))
 aside-byte {R} {h} {d} {all} {keys} K {out} is {without} restarted long {j} leaves past =
     let N = networkOf R in
     let network = K .asked .network in

@@ -3,7 +3,6 @@
 use Prim.Native.Nat.{ℕ, _+_, _*_, _<_}
 use mathlib.Core.Path.{_≡_}
 use lib.ListN.{length, getD}
-use Rattle.graph.specs.Network.{Network}
 use Rattle.graph.specs.Set.{SetOf}
 use Rattle.graph.specs.Entries.{Hop, RoutingEntry, ForwardingEntry, BackwardingEntry, KeyLink}
 use Rattle.net.specs.Refusals.{accepted}
@@ -15,20 +14,20 @@ use Rattle.tables.specs.declared.key.KeyLinks.{KeyLinks}
 use Rattle.tables.specs.Key.{KeyLinksAnswer}
 
 -- the byte of the one entry that a definition allows
-pub record TheEntry (N : Network) (Defined : Hop → Type 0) (byte : ℕ) : Type 0 where
+pub record TheEntry (Defined : Hop → Type 0) (byte : ℕ) : Type 0 where
   pub hop : Hop
   pub defined : Defined hop
   pub only : (other : Hop) → Defined other → other ≡ hop
-  pub is : byte ≡ byteOf N hop
+  pub is : byte ≡ byteOf hop
 
 -- r is the builder's answer on the network R, and T are the tables as it left them
 pub record Demand2 (R : Rows) (r : Verdict) (T : LentTables) : Type 0 where
   pub number : r .number ≡ accepted
   pub routing-entries : (i d : ℕ) → i < R .nodes → d < R .nodes
-      → TheEntry (networkOf R) (RoutingEntry (networkOf R) d i) (getD (T .routing) (i * R .nodes + d) 0)
+      → TheEntry (RoutingEntry (networkOf R) d i) (getD (T .routing) (i * R .nodes + d) 0)
   pub forwarding-entries : (h d : ℕ) → h < 2 * length (R .low) → d < R .nodes
-      → TheEntry (networkOf R) (ForwardingEntry (networkOf R) d h) (getD (T .forwarding) (h * R .nodes + d) 0)
+      → TheEntry (ForwardingEntry (networkOf R) d h) (getD (T .forwarding) (h * R .nodes + d) 0)
   pub backwarding-entries : (h d : ℕ) → h < 2 * length (R .low) → d < R .nodes
-      → TheEntry (networkOf R) (BackwardingEntry (networkOf R) d h) (getD (T .backwarding) (h * R .nodes + d) 0)
+      → TheEntry (BackwardingEntry (networkOf R) d h) (getD (T .backwarding) (h * R .nodes + d) 0)
   pub key-links : (h d : ℕ) (keys : KeyLinks) → h < 2 * length (R .low) → d < R .nodes → KeyLinksAnswer R h d keys
       → (keys .number ≡ accepted) × SetOf (length (R .low)) (KeyLink (networkOf R) d h) (keys .links)

@@ -8,7 +8,9 @@ use Rattle.graph.specs.Path.{All}
 use Rattle.graph.specs.Entries.{Free, Aside}
 use Rattle.net.specs.Entry.{EntryByte}
 
--- The three kinds, by row and destination: a routing row is a node's, a forwarding or backwarding row an interface's.
+-- The three kinds, by row and destination: a routing row is a node's, a forwarding or backwarding row an interface's. Where document 01
+-- says the first node, the byte is the first link: "the routing look-up now promises a link number, and all tables [..] follow" (document
+-- 02, L5).
 -- "Routing entry of i for d: the first node after i on the best path."
 abbrev pub RoutingByte : Network → ℕ → ℕ → ℕ → Type 0
 RoutingByte N i d = EntryByte N All i d

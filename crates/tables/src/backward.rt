@@ -40,7 +40,7 @@ fn backward_byte(
     let j = tail_of(h, low, high).0;
     let out = link_set::with_link(keys, link_of(h));
     let without = column_without(all, n, low, high, weight, out);
-    entry_byte(j, destination.0, low, high, without[j])
+    entry_byte(j, destination.0, without[j])
 }
 
 // The entries for one destination.

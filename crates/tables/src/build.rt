@@ -55,7 +55,7 @@ fn fill_routing(
         let from = i * n;
         let to = from + n;
         let costs = rows[i];
-        fill_row(&mut table[from..to], n, i, low, high, costs);
+        fill_row(&mut table[from..to], n, i, costs);
         i += 1;
     }
 }
@@ -91,8 +91,8 @@ fn fill_without_own(
         let third = second + n;
         let from_low = costs_of(without, n, x);
         let from_high = costs_of(without, n, y);
-        fill_row(&mut table[first..second], n, x, low, high, from_low);
-        fill_row(&mut table[second..third], n, y, low, high, from_high);
+        fill_row(&mut table[first..second], n, x, from_low);
+        fill_row(&mut table[second..third], n, y, from_high);
         let next = note_link(kept, all, without, n, low, high, weight, k);
         kept = next;
         k += 1;
@@ -155,7 +155,7 @@ fn fill_forwarding(
         let own = rows[i];
         let found = turned[i];
         let costs = forward_costs(Interface(h), n, own, found);
-        fill_row(&mut table[from..to], n, i, low, high, costs);
+        fill_row(&mut table[from..to], n, i, costs);
         h += 1;
     }
 }

@@ -12,13 +12,10 @@ use native.Mathlib.Omega.{arith}
 use lib.ListN.{length, getD, take, drop, length-drop}
 use lib.Seq.{getD-take, getD-drop, length-take-le}
 use Rattle.net.specs.Choice.{both}
-use Rattle.graph.specs.Network.{tail, head}
-use Rattle.net.specs.Rows.{Rows, tailOf, headOf}
-use Rattle.net.proofs.Rows.{tail-of, head-of}
+use Rattle.net.specs.Rows.{tailOf, headOf}
 use Rattle.tables.specs.Lent.{LentTables}
 use Rattle.walk.specs.Lent.{allBelow, bytePasses, tablePasses, tablesPass}
-use Rattle.walk.specs.inner.Neighbours.{rowPasses, Checking, Ready}
-use Rattle.walk.proofs.Lookup.{tail-below, head-below}
+use Rattle.walk.specs.inner.Reading.{rowPasses, Checking, CheckingAll}
 
 both-false : (b : Bool) → both b false ≡ false
 both-false true = refl
@@ -50,82 +47,71 @@ pub row-within : (n rows row size : ℕ) → row < rows → rows * n ≤ size �
 row-within n rows row size h long = omega (arith, mul-le-mul-right n (add-one-le h))
 
 -- the bytes of a row and the rows of a table, each row lent as a part of its table
-abbrev pub byteTest : Rows → ℕ → List ℕ → ℕ → Bool
-byteTest R i row d = bytePasses R i d (getD row d 0)
+abbrev pub byteTest : List ℕ → List ℕ → ℕ → List ℕ → ℕ → Bool
+byteTest low high i row d = bytePasses low high i d (getD row d 0)
 
-abbrev pub rowTest : Rows → (ℕ → ℕ) → List ℕ → ℕ → Bool
-rowTest R deciding table row = rowPasses R (deciding row) (take (R .nodes) (drop (row * R .nodes) table))
+abbrev pub rowTest : ℕ → List ℕ → List ℕ → (ℕ → ℕ) → List ℕ → ℕ → Bool
+rowTest n low high deciding table row = rowPasses low high (deciding row) (take n (drop (row * n) table))
 
 -- the rows below a number have passed
-pub record RowsPassed (R : Rows) (deciding : ℕ → ℕ) (table : List ℕ) (rows row : ℕ) : Type 0 where
+pub record RowsPassed (n : ℕ) (low high : List ℕ) (deciding : ℕ → ℕ) (table : List ℕ) (rows row : ℕ) : Type 0 where
   pub within : row ≤ rows
-  pub so-far : allBelow row (rowTest R deciding table) ≡ true
-
-pub row-is : (R : Rows) (i : ℕ) (row : List ℕ) → rowPasses R i row ≡ allBelow (length row) (byteTest R i row)
-unfolding rowPasses
-row-is R i row = refl
+  pub so-far : allBelow row (rowTest n low high deciding table) ≡ true
 
 all-same : (count : ℕ) (one other : ℕ → Bool) → ((k : ℕ) → k < count → one k ≡ other k) → allBelow count one ≡ allBelow count other
 unfolding allBelow
 all-same zero one other same = refl
 all-same (suc count) one other same = ap₂ both (all-same count one other (λ k h. same k (omega arith))) (same count (omega arith))
 
-pub table-is : (R : Rows) (rows : ℕ) (deciding : ℕ → ℕ) (table : List ℕ) → rows * R .nodes ≤ length table
-    → tablePasses R rows deciding table ≡ allBelow rows (rowTest R deciding table)
-unfolding tablePasses rowPasses
-table-is R rows deciding table long =
-    let n = R .nodes in
-    all-same rows _ _ λ row h.
-    let fits : row * n + n ≤ length table = row-within n rows row (length table) h long in
-    let row-length : length (take n (drop (row * n) table)) ≡ n =
-    length-take-le n (drop (row * n) table) (simp length-drop (omega arith)) in
-    rw row-length (all-same n _ _ λ d d-below.
-    rw (getD-take n (drop (row * n) table) d 0 d-below, getD-drop (row * n) table d 0))
+module _ (low high : List ℕ) where
+  pub row-is : (i : ℕ) (row : List ℕ) → rowPasses low high i row ≡ allBelow (length row) (byteTest low high i row)
+  unfolding rowPasses
+  row-is i row = refl
 
--- what the code says of a row, lent as a part of its table
-pub row-as-part : (R : Rows) (deciding : ℕ → ℕ) (table : List ℕ) (row i : ℕ) {r : Bool} → i ≡ deciding row
-    → r ≡ rowPasses R i (take (row * R .nodes + R .nodes - row * R .nodes) (drop (row * R .nodes) table))
-    → rowTest R deciding table row ≡ r
-row-as-part R deciding table row i same e =
-    let n = R .nodes in
-    let size : row * n + n - row * n ≡ n = omega arith in
-    sym (rw (same, size) at e)
+  module _ (n : ℕ) (deciding : ℕ → ℕ) (table : List ℕ) where
+    pub table-is : (rows : ℕ) → rows * n ≤ length table
+        → tablePasses n low high rows deciding table ≡ allBelow rows (rowTest n low high deciding table)
+    unfolding tablePasses rowPasses
+    table-is rows long =
+        all-same rows _ _ λ row h.
+        let fits : row * n + n ≤ length table = row-within n rows row (length table) h long in
+        let row-length : length (take n (drop (row * n) table)) ≡ n =
+        length-take-le n (drop (row * n) table) (simp length-drop (omega arith)) in
+        rw row-length (all-same n _ _ λ d d-below.
+        rw (getD-take n (drop (row * n) table) d 0 d-below, getD-drop (row * n) table d 0))
 
--- the three tables: what is known where the rows of interfaces are checked, and what the answers come to in the order of the code
-module _ (R : Rows) (T : LentTables) where
-  open Rows R using (nodes as n, low, high)
+    -- what the code says of a row, lent as a part of its table
+    pub row-as-part : (row i : ℕ) {r : Bool} → i ≡ deciding row
+        → r ≡ rowPasses low high i (take (row * n + n - row * n) (drop (row * n) table))
+        → rowTest n low high deciding table row ≡ r
+    row-as-part row i same e =
+        let size : row * n + n - row * n ≡ n = omega arith in
+        sym (rw (same, size) at e)
 
-  module _ {map : List ℕ} (ready : Ready R T map) where
-    pub forwards-ready : Checking R map (2 * length low) (headOf low high) (T .forwarding)
-    forwards-ready =
-        record {
-          network = ready .network;
-          neighbours = ready .neighbours;
-          room = ready .long .for-forwarding;
-          nodes = λ h below. rw (head-of R h) at (head-below R (ready .network) h below);
-        }
+-- the three tables: what is known where each is checked, and what the answers come to in the order of the code
+module _ (n : ℕ) (low high : List ℕ) (T : LentTables) where
+  module _ (all : CheckingAll n low high T) where
+    pub routes-ready : Checking n low high n (T .routing)
+    routes-ready = record { paired = all .paired; room = all .long .for-routing }
 
-    pub backwards-ready : Checking R map (2 * length low) (tailOf low high) (T .backwarding)
-    backwards-ready =
-        record {
-          network = ready .network;
-          neighbours = ready .neighbours;
-          room = ready .long .for-backwarding;
-          nodes = λ h below. rw (tail-of R h) at (tail-below R (ready .network) h below);
-        }
+    pub forwards-ready : Checking n low high (2 * length low) (T .forwarding)
+    forwards-ready = record { paired = all .paired; room = all .long .for-forwarding }
 
-  module _ {routes : Bool} (routes-told : routes ≡ tablePasses R n (λ i. i) (T .routing)) where
-    pub routes-fail : routes ≡ false → false ≡ tablesPass R T
+    pub backwards-ready : Checking n low high (2 * length low) (T .backwarding)
+    backwards-ready = record { paired = all .paired; room = all .long .for-backwarding }
+
+  module _ {routes : Bool} (routes-told : routes ≡ tablePasses n low high n (λ i. i) (T .routing)) where
+    pub routes-fail : routes ≡ false → false ≡ tablesPass n low high T
     unfolding tablesPass
     routes-fail e = sym (simp (← routes-told, e))
 
     module _ (pass : routes ≡ true) {forwards : Bool}
-        (forwards-told : forwards ≡ tablePasses R (2 * length low) (headOf low high) (T .forwarding)) where
-      pub forwards-fail : forwards ≡ false → false ≡ tablesPass R T
-      unfolding tablesPass head
+        (forwards-told : forwards ≡ tablePasses n low high (2 * length low) (headOf low high) (T .forwarding)) where
+      pub forwards-fail : forwards ≡ false → false ≡ tablesPass n low high T
+      unfolding tablesPass
       forwards-fail e = sym (simp (← routes-told, pass, ← forwards-told, e))
 
       pub backwards-decide : {backwards : Bool} → forwards ≡ true
-          → backwards ≡ tablePasses R (2 * length low) (tailOf low high) (T .backwarding) → backwards ≡ tablesPass R T
-      unfolding tablesPass head tail
+          → backwards ≡ tablePasses n low high (2 * length low) (tailOf low high) (T .backwarding) → backwards ≡ tablesPass n low high T
+      unfolding tablesPass
       backwards-decide e backwards-told = sym (simp (← routes-told, pass, ← forwards-told, e, ← backwards-told))

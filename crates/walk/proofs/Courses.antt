@@ -4,7 +4,7 @@ use Prim.Native.Nat.{ℕ, _+_, _*_, _-_, _<_}
 use mathlib.Core.Bool.{true, false}
 use mathlib.Core.Path.{_≡_, sym, subst, _∙_}
 use mathlib.Core.Logic.{_≢_}
-use mathlib.Core.List.{List, map}
+use mathlib.Core.List.{List}
 use native.Mathlib.Omega.{arith}
 use lib.ListN.{length, getD, set}
 use Rattle.graph.specs.Network.{Network, link, tail, head}
@@ -20,80 +20,80 @@ use Rattle.net.proofs.Overwrite.{over-none, over-first}
 use Rattle.tables.specs.Lent.{LentTables}
 use Rattle.walk.specs.Lent.{hopAt}
 use Rattle.walk.specs.Walk.{endingNumber}
-use Rattle.walk.specs.inner.Ground.{Ground}
+use Rattle.walk.specs.inner.Ground.{Ground, rowsOn, tablesOn}
 use Rattle.walk.specs.inner.Moves.{lostEnding, movedOn, courseFrom, courseAround, Went, WentFrom}
 use Rattle.walk.specs.declared.question.Question.{Question}
 use Rattle.walk.specs.declared.moves.Packet.{Packet}
 use Rattle.walk.specs.declared.moves.Outcome.{Outcome}
 use Rattle.walk.proofs.Grounds.{forwarding-read, backwarding-read}
 
-module _ {n : ℕ} {map forwarding backwarding : List ℕ} (on : Ground n map forwarding backwarding) (question : Question) (packet : Packet)
-  where
-    abbrev R : Rows
-    R = on .rows
+module _ {n : ℕ} {low high forwarding backwarding : List ℕ} (on : Ground n low high forwarding backwarding) (question : Question)
+    (packet : Packet) where
+  abbrev R : Rows
+  R = rowsOn on
 
-    abbrev T : LentTables
-    T = on .tables
+  abbrev T : LentTables
+  T = tablesOn on
 
-    abbrev N : Network
-    N = networkOf R
+  abbrev N : Network
+  N = networkOf R
 
-    abbrev i : ℕ
-    i = packet .node .0
+  abbrev i : ℕ
+  i = packet .node .0
 
-    abbrev d : ℕ
-    d = question .destination .0
+  abbrev d : ℕ
+  d = question .destination .0
 
-    abbrev course : Course
-    course = courseFrom R T question packet
+  abbrev course : Course
+  course = courseFrom R T question packet
 
-    -- the packet after one hop more, over interface f to node v
-    abbrev beyond : Node → ℕ → Packet
-    beyond v f = movedOn packet v (getD forwarding (f * n + d) 0)
+  -- the packet after one hop more, over interface f to node v
+  abbrev beyond : Node → ℕ → Packet
+  beyond v f = movedOn packet v (getD forwarding (f * n + d) 0)
 
-    pub course-delivered : i ≡ d → course ≡ endsBy delivered
+  pub course-delivered : i ≡ d → course ≡ endsBy delivered
+  unfolding courseFrom
+  course-delivered e = walk-delivered N _ _ d i (packet .left) _ _ e
+
+  module _ (away : i ≢ d) where
+    pub course-exhausted : packet .left ≡ 0 → course ≡ endsBy exhausted
     unfolding courseFrom
-    course-delivered e = walk-delivered N _ _ d i (packet .left) _ _ e
+    course-exhausted e = walk-exhausted N _ _ d i away (packet .left) _ _ e
 
-    module _ (away : i ≢ d) where
-      pub course-exhausted : packet .left ≡ 0 → course ≡ endsBy exhausted
+    module _ (some : packet .left ≢ 0) where
+      pub course-lost : Leadless (hopAt low high i (packet .entry)) → course ≡ endsBy (lostEnding (packet .arrived))
       unfolding courseFrom
-      course-exhausted e = walk-exhausted N _ _ d i away (packet .left) _ _ e
+      course-lost l = walk-lost N _ _ d i away (packet .left) some _ _ l
 
-      module _ (some : packet .left ≢ 0) where
-        pub course-lost : Leadless (hopAt R i (packet .entry)) → course ≡ endsBy (lostEnding (packet .arrived))
-        unfolding courseFrom
-        course-lost l = walk-lost N _ _ d i away (packet .left) some _ _ l
+      module _ (f : ℕ) (leads : hopAt low high i (packet .entry) ≡ onward f) where
+        pub course-turns : fails (question .failure) (link f) ≡ true → course ≡ courseAround R T question packet f
+        unfolding courseFrom courseAround
+        course-turns down = rw leads (walk-turns N _ _ d i away (packet .left) some _ f down)
 
-        module _ (f : ℕ) (leads : hopAt R i (packet .entry) ≡ onward f) where
-          pub course-turns : fails (question .failure) (link f) ≡ true → course ≡ courseAround R T question packet f
-          unfolding courseFrom courseAround
-          course-turns down = rw leads (walk-turns N _ _ d i away (packet .left) some _ f down)
+        pub course-on : (v : Node) → v .0 ≡ head N f → fails (question .failure) (link f) ≡ false
+            → course ≡ crossing f (courseFrom R T question (beyond v f))
+        unfolding courseFrom movedOn lostEnding
+        course-on v enters up =
+            rw leads
+            (walk-on N _ _ d i away (packet .left) some _ f up
+            ∙ rw (forwarding-read on d f (v .0) (sym enters), enters))
 
-          pub course-on : (v : Node) → v .0 ≡ head N f → fails (question .failure) (link f) ≡ false
-              → course ≡ crossing f (courseFrom R T question (beyond v f))
-          unfolding courseFrom movedOn lostEnding
-          course-on v enters up =
-              rw leads
-              (walk-on N _ _ d i away (packet .left) some _ f up
-              ∙ rw (forwarding-read on d f (v .0) (sym enters), enters))
+  module _ (f : ℕ) (leaves : tail N f ≡ i) where
+    pub turned-lost : Leadless (hopAt low high i (getD backwarding (f * n + d) 0)) → courseAround R T question packet f ≡ endsBy dropped
+    unfolding courseAround
+    turned-lost l = rw (backwarding-read on d f i leaves) (around-lost N _ _ d i (packet .left - 1) _ l)
 
-    module _ (f : ℕ) (leaves : tail N f ≡ i) where
-      pub turned-lost : Leadless (hopAt R i (getD backwarding (f * n + d) 0)) → courseAround R T question packet f ≡ endsBy dropped
+    module _ (g : ℕ) (leads : hopAt low high i (getD backwarding (f * n + d) 0) ≡ onward g) where
+      pub turned-drops : fails (question .failure) (link g) ≡ true → courseAround R T question packet f ≡ endsBy dropped
       unfolding courseAround
-      turned-lost l = rw (backwarding-read on d f i leaves) (around-lost N _ _ d i (packet .left - 1) _ l)
+      turned-drops down = rw (backwarding-read on d f i leaves, leads) (around-drops N _ _ d i (packet .left - 1) g down)
 
-      module _ (g : ℕ) (leads : hopAt R i (getD backwarding (f * n + d) 0) ≡ onward g) where
-        pub turned-drops : fails (question .failure) (link g) ≡ true → courseAround R T question packet f ≡ endsBy dropped
-        unfolding courseAround
-        turned-drops down = rw (backwarding-read on d f i leaves, leads) (around-drops N _ _ d i (packet .left - 1) g down)
-
-        pub turned-on : (v : Node) → v .0 ≡ head N g → fails (question .failure) (link g) ≡ false
-            → courseAround R T question packet f ≡ crossing g (courseFrom R T question (beyond v g))
-        unfolding courseAround courseFrom movedOn lostEnding
-        turned-on v enters up =
-            rw (backwarding-read on d f i leaves, leads)
-            (around-on N _ _ d i (packet .left - 1) g up ∙ rw (forwarding-read on d g (v .0) (sym enters), enters))
+      pub turned-on : (v : Node) → v .0 ≡ head N g → fails (question .failure) (link g) ≡ false
+          → courseAround R T question packet f ≡ crossing g (courseFrom R T question (beyond v g))
+      unfolding courseAround courseFrom movedOn lostEnding
+      turned-on v enters up =
+          rw (backwarding-read on d f i leaves, leads)
+          (around-on N _ _ d i (packet .left - 1) g up ∙ rw (forwarding-read on d g (v .0) (sym enters), enters))
 
 -- a walk that ends here; one that goes on over a link
 module _ (N : Network) {course : Course} (hops : ℕ) (trace : List ℕ) where
@@ -120,20 +120,20 @@ pub went-same : (N : Network) {course other : Course} (hops : ℕ) (trace : List
 went-same N hops trace same went = rw same went
 
 -- a move that crosses interface f and hands the packet on
-module _ {n : ℕ} {map forwarding backwarding : List ℕ} (on : Ground n map forwarding backwarding) (question : Question)
+module _ {n : ℕ} {low high forwarding backwarding : List ℕ} (on : Ground n low high forwarding backwarding) (question : Question)
     (packet next : Packet) (v : Node) (f : ℕ) where
   pub went-over : {whole : Course} {trace after : List ℕ} {r : Outcome}
-      → whole ≡ crossing f (courseFrom (on .rows) (on .tables) question (beyond on question packet v f))
-      → next ≡ beyond on question packet v f → v .0 ≡ head (networkOf (on .rows)) f → packet .hops + 1 < length trace
-      → Went (networkOf (on .rows)) (courseFrom (on .rows) (on .tables) question next) (next .hops)
+      → whole ≡ crossing f (courseFrom (rowsOn on) (tablesOn on) question (beyond on question packet v f))
+      → next ≡ beyond on question packet v f → v .0 ≡ head (networkOf (rowsOn on)) f → packet .hops + 1 < length trace
+      → Went (networkOf (rowsOn on)) (courseFrom (rowsOn on) (tablesOn on) question next) (next .hops)
       (set trace (packet .hops + 1) (v .0)) r after
-      → Went (networkOf (on .rows)) whole (packet .hops) trace r after
+      → Went (networkOf (rowsOn on)) whole (packet .hops) trace r after
   unfolding movedOn
   went-over {whole} {trace} {after} {r} is moved enters room went =
-      let N = networkOf (on .rows) in
+      let N = networkOf (rowsOn on) in
       let stored = set trace (packet .hops + 1) (v .0) in
       went-on N (packet .hops) trace f (v .0) enters is room
-      (subst (λ (p : Packet). Went N (courseFrom (on .rows) (on .tables) question p) (p .hops) stored r after) moved went)
+      (subst (λ (p : Packet). Went N (courseFrom (rowsOn on) (tablesOn on) question p) (p .hops) stored r after) moved went)
 
 -- a whole walk from its source
 pub went-from : (N : Network) {course : Course} {r : Outcome} {after : List ℕ} (s : ℕ) (trace : List ℕ)

@@ -1,17 +1,11 @@
 -- The contracts of `step` and `walk` determine their answers and the trace that a walk leaves: two that they allow for the same inputs
--- are equal, as each contract says what the answer is. So do those of the verdict, the look-up and the walk over checked tables, which
--- other crates call: the look-up has one byte for each pair of nodes, and ending, hop count and trace are told by one course.
-use Prim.Native.Nat.{ℕ, _+_, _*_, _<_, _/_, _%_}
-use mathlib.Core.Path.{_≡_}
-use native.Mathlib.Omega.{arith}
+-- are equal, as each contract says what the answer is. So do those of the verdict and of the walk over checked tables, which other crates
+-- call: ending, hop count and trace are told by one course.
 use denote.Ref.{now}
-use lib.Seq.{ext-getD}
-use Rattle.net.specs.Limits.{mostNodes}
 use Rattle.net.proofs.Determined.{Determined, Leaves, agree}
 use Rattle.walk.proofs.steps.step.Reads as step-contract
 use Rattle.walk.proofs.walks.walk.Reads as walk-contract
 use Rattle.walk.proofs.lent.lent_verdict.Reads as lent-verdict-contract
-use Rattle.walk.proofs.lent.neighbours.Reads as neighbours-contract
 use Rattle.walk.proofs.moves.walk_from.Reads as walk-from-contract
 
 pub step : Determined step-contract.Learnt
@@ -27,18 +21,8 @@ walk-trace a inputs x y e f p q = agree (p .1) (q .1)
 pub lent-verdict : Determined lent-verdict-contract.Learnt
 lent-verdict a inputs x y e f p q = agree p q
 
-pub neighbours : Determined neighbours-contract.Learnt
-neighbours a inputs x y e f p q =
-    ext-getD 0 x y (agree (p .whole) (q .whole)) λ at h.
-    let i : ℕ = at / mostNodes in
-    let v : ℕ = at % mostNodes in
-    let place : mostNodes * i + v ≡ at = omega arith in
-    let row : i < mostNodes = omega (arith, p .whole) in
-    let column : v < mostNodes = omega arith in
-    rw place at (agree (p .bytes i v row column) (q .bytes i v row column))
-
 pub walk-from : Determined walk-from-contract.Learnt
 walk-from a inputs x y e f p q = λ t. record { ending = agree (p .ending) (q .ending) t; hops = agree (p .hops) (q .hops) t }
 
-pub walk-from-trace : Leaves walk-from-contract.Learnt (λ a exit. now (exit .1 .1 .1 .1 .1 .1 .1 .1 .1 .1 .1 .0))
+pub walk-from-trace : Leaves walk-from-contract.Learnt (λ a exit. now (exit .1 .1 .1 .1 .1 .1 .1 .1 .1 .1 .0))
 walk-from-trace a inputs x y e f p q = agree (p .trace) (q .trace)

@@ -1,25 +1,26 @@
 -- The test of refusal 16 and its words agree: tables pass the test exactly if every entry for the deciding node itself is hereByte, and
--- every other entry is nowhereByte or a neighbour of the deciding node. An interface that the test finds is one that makes the node a
--- neighbour, and back.
+-- every other entry is nowhereByte or a link at the deciding node. The link of an interface that the test finds is one at the node that
+-- the interface leaves, and a link at a node has an interface that leaves it.
 use Prim.Native.Nat.{ℕ, zero, suc, _+_, _*_, _<_}
 use mathlib.Core.Bool.{Bool, true, false}
-use mathlib.Core.Path.{_≡_, refl, ap, _∙_}
+use mathlib.Core.Path.{_≡_, refl, sym, ap, _∙_}
 use mathlib.Core.Logic.{inl, inr, _↔_}
 use mathlib.Core.List.{List}
 use native.Mathlib.Decide.{ℕ-discrete}
 use native.Mathlib.Omega.{arith}
 use borrow.Author.Tests.{eq-eqb, ne-eqb, eqb-true}
 use lib.ListN.{length, getD}
-use Rattle.graph.specs.Network.{Network, tail, head}
+use Rattle.graph.specs.Network.{Network, link, tail, head}
 use Rattle.graph.specs.Entries.{Hop, here, onward, nowhere}
+use Rattle.graph.proofs.Interfaces.{interface-ends, link-from-low, link-from-high, tail-from-low, tail-from-high}
 use Rattle.net.specs.Choice.{both}
 use Rattle.net.specs.Rows.{Rows, networkOf}
 use Rattle.net.specs.Check.{Accepted}
 use Rattle.net.specs.Entry.{hereByte, nowhereByte}
-use Rattle.net.proofs.Rows.{interface-present, interface-row}
+use Rattle.net.proofs.Rows.{interface-present, present-row}
 use Rattle.tables.specs.Lent.{LentTables}
-use Rattle.walk.specs.Lent.{hopAt, Neighbour, Passes, TablePasses, TablesPass, allBelow, leadsOn, bytePasses, tablePasses, tablesPass}
-use Rattle.walk.proofs.Hops.{hop-below, hop-leaves, hop-enters, hop-is}
+use Rattle.walk.specs.Lent.{hopAt, LinkAt, Passes, TablePasses, TablesPass, allBelow, leadsOn, bytePasses, tablePasses, tablesPass}
+use Rattle.walk.proofs.Hops.{hop-below, hop-leaves, hop-link, hop-is}
 
 both-exactly : (a b : Bool) → (both a b ≡ true) ↔ ((a ≡ true) × (b ≡ true))
 both-exactly true b = (λ e. (refl, e), λ e. e .1)
@@ -40,30 +41,44 @@ all-exactly (suc count) test = (
       (all-exactly count test .1 (λ k h. all k (omega arith)), all count (omega arith)),
 )
 
+-- the link of an interface is one at the node that it leaves
+pub link-left : (R : Rows) (f i : ℕ) → networkOf R .Present (link f) → tail (networkOf R) f ≡ i → LinkAt (networkOf R) i (link f)
+link-left R f i present leaves =
+    record {
+      numbered = present-row R (link f) present;
+      joins = elim (interface-ends (networkOf R) f) [ inl (t, _) ↦ inl (sym t ∙ leaves) | inr (t, _) ↦ inr (sym t ∙ leaves) ];
+    }
+
 module _ (R : Rows) (A : Accepted R) where
-  open Rows R using (nodes as n, low)
+  open Rows R using (nodes as n, low, high)
 
   abbrev N : Network
   N = networkOf R
 
-  -- a byte leads on exactly if it is a neighbour
-  neighbour-exactly : (i v : ℕ) → (leadsOn (hopAt R i v) ≡ true) ↔ Neighbour N i v
+  -- a byte leads on exactly if it is a link at the node
+  link-exactly : (i k : ℕ) → (leadsOn (hopAt low high i k) ≡ true) ↔ LinkAt N i k
   unfolding leadsOn
-  neighbour-exactly i v = (go (hopAt R i v) refl, back)
+  link-exactly i k = (go (hopAt low high i k) refl, back)
     where
-      go : (h : Hop) → hopAt R i v ≡ h → leadsOn h ≡ true → Neighbour N i v
+      go : (h : Hop) → hopAt low high i k ≡ h → leadsOn h ≡ true → LinkAt N i k
       go here e q = absurd (let z : _≡_ {A = ℕ} 0 1 = cc in omega arith)
       go nowhere e q = absurd (let z : _≡_ {A = ℕ} 0 1 = cc in omega arith)
-      go (onward f) e q =
-          record { by = f; present = interface-present R f (hop-below R i v e); from = hop-leaves R i v e; to = hop-enters R i v e }
+      go (onward f) e q = rw (hop-link R i k e) at (link-left R f i (interface-present R f (hop-below R i k e)) (hop-leaves R i k e))
 
-      back : Neighbour N i v → leadsOn (hopAt R i v) ≡ true
-      back b =
-          let below = interface-row R (b .by) (b .present) in
-          let named : hopAt R i v ≡ onward (b .by) = rw (b .to) at (hop-is R A (b .by) i below (b .from)) in
+      leads : (f : ℕ) → f < 2 * length low → tail N f ≡ i → link f ≡ k → leadsOn (hopAt low high i k) ≡ true
+      leads f below leaves is =
+          let named : hopAt low high i k ≡ onward f = rw is at (hop-is R A f i below leaves) in
           rw named
 
-  byte-exactly : (i d byte : ℕ) → (bytePasses R i d byte ≡ true) ↔ Passes N i d byte
+      back : LinkAt N i k → leadsOn (hopAt low high i k) ≡ true
+      back b =
+          let numbered = b .numbered in
+          elim (b .joins) [
+            | inl e ↦ leads (2 * k) (omega arith) (tail-from-low k N ∙ e) (link-from-low k)
+            | inr e ↦ leads (2 * k + 1) (omega arith) (tail-from-high k N ∙ e) (link-from-high k)
+          ]
+
+  byte-exactly : (i d byte : ℕ) → (bytePasses low high i d byte ≡ true) ↔ Passes N i d byte
   unfolding bytePasses
   byte-exactly i d byte =
       elim (ℕ-discrete d i) [
@@ -77,14 +92,14 @@ module _ (R : Rows) (A : Accepted R) where
             λ p. refl,
           )
           | no q ↦ rw (ne-eqb byte nowhereByte q) (
-            λ s. record { own = λ s. absurd (e s); other = λ _. inr (neighbour-exactly i byte .0 s) },
-            λ p. neighbour-exactly i byte .1 (elim (p .other e) [ inl s ↦ absurd (q s) | inr b ↦ b ]),
+            λ s. record { own = λ s. absurd (e s); other = λ _. inr (link-exactly i byte .0 s) },
+            λ p. link-exactly i byte .1 (elim (p .other e) [ inl s ↦ absurd (q s) | inr b ↦ b ]),
           )
         ])
       ]
 
   table-exactly : (rows : ℕ) (deciding : ℕ → ℕ) (table : List ℕ)
-      → (tablePasses R rows deciding table ≡ true) ↔ TablePasses N rows deciding table
+      → (tablePasses n low high rows deciding table ≡ true) ↔ TablePasses N rows deciding table
   unfolding tablePasses
   table-exactly rows deciding table = (
     λ e row d row-below d-below.
@@ -100,13 +115,13 @@ module _ (R : Rows) (A : Accepted R) where
       byte row d = getD table (row * n + d) 0
 
       passes : ℕ → ℕ → Bool
-      passes row d = bytePasses R (deciding row) d (byte row d)
+      passes row d = bytePasses low high (deciding row) d (byte row d)
 
       row-passes : ℕ → Bool
       row-passes row = allBelow n (passes row)
 
-  pub passes-exactly : (T : LentTables) → (tablesPass R T ≡ true) ↔ TablesPass N T
-  unfolding tablesPass
+  pub passes-exactly : (T : LentTables) → (tablesPass n low high T ≡ true) ↔ TablesPass N T
+  unfolding tablesPass head tail
   passes-exactly T = (
     λ e.
         let (r, rest) = both-exactly routes (both forwards backwards) .0 e in
@@ -127,10 +142,10 @@ module _ (R : Rows) (A : Accepted R) where
   )
     where
       routes : Bool
-      routes = tablePasses R n (λ i. i) (T .routing)
+      routes = tablePasses n low high n (λ i. i) (T .routing)
 
       forwards : Bool
-      forwards = tablePasses R (2 * length low) (head N) (T .forwarding)
+      forwards = tablePasses n low high (2 * length low) (head N) (T .forwarding)
 
       backwards : Bool
-      backwards = tablePasses R (2 * length low) (tail N) (T .backwarding)
+      backwards = tablePasses n low high (2 * length low) (tail N) (T .backwarding)

@@ -1,133 +1,197 @@
--- What a byte says at a node. The code's map finds exactly what the definition says (found-hop); an interface that a byte names is one
--- of the network, and leaves that node (hop-onward); and the head of an interface, as a byte, names that interface (hop-is).
+-- What a byte says at a node. The interface that it names is one of the network, leaves that node, and has the byte as its link
+-- (hop-below, hop-leaves, hop-link); and the link of an interface, read at the node that it leaves, names that interface (hop-is): the
+-- other one of the link leaves its other end. The code asks the same questions in the same order, but for 254 and 255, which are no links.
 use Prim.Native.Nat.{ℕ, _+_, _*_, _≤_, _<_}
 use mathlib.Core.Bool.{Bool, true, false}
 use mathlib.Core.Path.{_≡_, refl, sym, ap, _∙_}
-use mathlib.Core.List.{List}
-use mathlib.Core.Logic.{_≢_}
-use mathlib.Core.Option.{Option, none, some}
-use native.Mathlib.Decide.{ℕ-discrete}
+use mathlib.Core.List.{List, []}
+use mathlib.Core.Logic.{_≢_, _⊎_, inl, inr}
+use native.Mathlib.Decide.{ℕ-discrete, decLe}
 use native.Mathlib.Omega.{arith}
-use borrow.Author.Tests.{eq-eqb, ne-eqb}
+use borrow.Author.Tests.{eq-eqb, ne-eqb, le-leb, lt-leb}
 use lib.ListN.{length, getD}
 use lib.Dec.{eqb}
-use Rattle.graph.specs.Network.{Network, tail, head}
+use Rattle.graph.specs.Network.{Network, link, tail, head}
 use Rattle.graph.specs.Entries.{Hop, here, onward, nowhere}
+use Rattle.graph.proofs.Interfaces.{two-sides, link-from-low, link-from-high}
+use Rattle.graph.proofs.Interfaces.{tail-from-low, head-from-low, tail-from-high, head-from-high, head-node}
 use Rattle.graph.proofs.Moves.{Leadless, at-destination, without-path}
 use Rattle.net.specs.Choice.{pick}
-use Rattle.net.specs.Limits.{mostNodes}
-use Rattle.net.specs.Rows.{Rows, networkOf}
+use Rattle.net.specs.Rows.{Rows, networkOf, headOf}
 use Rattle.net.specs.Check.{Accepted}
 use Rattle.net.specs.Entry.{hereByte, nowhereByte}
 use Rattle.net.specs.declared.interface.Interface.{Interface}
 use Rattle.net.specs.declared.interface.Node.{Node}
-use Rattle.walk.specs.Lent.{interfaceTo, leads, hopAt, leadsOn, bytePasses}
-use Rattle.walk.specs.inner.Neighbours.{interfaceByte, Neighbours, foundBy}
+use Rattle.net.proofs.Accepted.{well-formed}
+use Rattle.net.proofs.Rows.{present-row, interface-present, head-of}
+use Rattle.walk.specs.Lent.{leaving, hopAt, leadsOn, bytePasses}
+use Rattle.walk.specs.inner.Reading.{foundBy, Paired}
 use Rattle.walk.specs.declared.lent.Found.{Found}
 use Rattle.walk.specs.declared.lent.Found.the-variants.{Next, Absent}
-use Rattle.walk.proofs.Lookup.{interface-found, interface-is, head-below}
 
-hop-names : (a b : Bool) (o : Option ℕ) {f : ℕ} → pick a here (pick b nowhere (leads o)) ≡ onward f → o ≡ some f
-unfolding leads
-hop-names true b o e = absurd (let z : _≡_ {A = ℕ} 0 1 = cc in omega arith)
-hop-names false true o e = absurd (let z : _≡_ {A = ℕ} 0 1 = cc in omega arith)
-hop-names false false none e = absurd (let z : _≡_ {A = ℕ} 0 1 = cc in omega arith)
-hop-names false false (some g) e = cc
+-- how a link may leave a node, with what was found of its ends
+data Leaves (low high : List ℕ) (i k : ℕ) : Hop → Type 0 where
+  no-link : length low ≤ k → Leaves low high i k nowhere
+  from-low : k < length low → getD low k 0 ≡ i → Leaves low high i k (onward (2 * k))
+  from-high : k < length low → getD low k 0 ≢ i → getD high k 0 ≡ i → Leaves low high i k (onward (2 * k + 1))
+  apart : k < length low → getD low k 0 ≢ i → getD high k 0 ≢ i → Leaves low high i k nowhere
+
+module _ (low high : List ℕ) (i k : ℕ) where
+  leaves : Leaves low high i k (leaving low high i k)
+  unfolding leaving
+  leaves =
+      elim (decLe (length low) k) [
+        | yes over ↦ simp (le-leb (length low) k over) (no-link over)
+        | no under ↦
+            let within : k < length low = omega arith in
+            elim (ℕ-discrete (getD low k 0) i) [
+              | yes at-low ↦ simp (lt-leb (length low) k within, eq-eqb (getD low k 0) i at-low) (from-low within at-low)
+              | no not-low ↦ elim (ℕ-discrete (getD high k 0) i) [
+                | yes at-high ↦
+                    simp (lt-leb (length low) k within, ne-eqb (getD low k 0) i not-low, eq-eqb (getD high k 0) i at-high)
+                    (from-high within not-low at-high)
+                | no not-high ↦
+                    simp (lt-leb (length low) k within, ne-eqb (getD low k 0) i not-low, ne-eqb (getD high k 0) i not-high)
+                    (apart within not-low not-high)
+              ]
+            ]
+      ]
+
+-- two entries of different kinds are not one
+abbrev LeadsOver : ℕ → Hop → Type 0
+LeadsOver f here = ⊥
+LeadsOver f (onward g) = g ≡ f
+LeadsOver f nowhere = ⊥
+
+leads-over : {h : Hop} {f : ℕ} → h ≡ onward f → LeadsOver f h
+leads-over {f = f} e = rw e refl
+
+-- what leads on is no 254 and no 255, so it is a link's
+past-tests : (a b : Bool) (h : Hop) {f : ℕ} → pick a here (pick b nowhere h) ≡ onward f → h ≡ onward f
+past-tests true b h e = absurd (leads-over e)
+past-tests false true h e = absurd (leads-over e)
+past-tests false false h e = e
 
 module _ (R : Rows) (i byte : ℕ) where
-  open Rows R using (low)
+  open Rows R using (low, high)
 
   abbrev N : Network
   N = networkOf R
 
-  hop-found : {f : ℕ} → hopAt R i byte ≡ onward f → (f < 2 * length low) × (tail N f ≡ i) × (head N f ≡ byte)
-  unfolding hopAt
-  hop-found e = interface-found R i byte (hop-names (eqb byte hereByte) (eqb byte nowhereByte) _ e)
+  leads-from : {h : Hop} {f : ℕ} → Leaves low high i byte h → LeadsOver f h
+      → (f < 2 * length low) × (tail N f ≡ i) × (link f ≡ byte)
+  leads-from (no-link over) e = absurd e
+  leads-from (from-low within at-low) e =
+      rw (← e) (omega arith, tail-from-low byte N ∙ at-low, link-from-low byte)
+  leads-from (from-high within not-low at-high) e =
+      rw (← e) (omega arith, tail-from-high byte N ∙ at-high, link-from-high byte)
+  leads-from (apart within not-low not-high) e = absurd e
 
-  -- the interface that a byte names at node i is one of the network, leaves i and enters the node that the byte is
-  pub hop-below : {f : ℕ} → hopAt R i byte ≡ onward f → f < 2 * length low
+  hop-found : {f : ℕ} → hopAt low high i byte ≡ onward f → (f < 2 * length low) × (tail N f ≡ i) × (link f ≡ byte)
+  unfolding hopAt
+  hop-found e =
+      leads-from (leaves low high i byte) (leads-over (past-tests (eqb byte hereByte) (eqb byte nowhereByte) (leaving low high i byte) e))
+
+  -- the interface that a byte names at node i is one of the network, leaves i, and the byte is its link
+  pub hop-below : {f : ℕ} → hopAt low high i byte ≡ onward f → f < 2 * length low
   hop-below e = hop-found e .0
 
-  pub hop-leaves : {f : ℕ} → hopAt R i byte ≡ onward f → tail N f ≡ i
+  pub hop-leaves : {f : ℕ} → hopAt low high i byte ≡ onward f → tail N f ≡ i
   hop-leaves e = hop-found e .1
 
-  pub hop-enters : {f : ℕ} → hopAt R i byte ≡ onward f → head N f ≡ byte
-  hop-enters e = hop-found e .2
+  pub hop-link : {f : ℕ} → hopAt low high i byte ≡ onward f → link f ≡ byte
+  hop-link e = hop-found e .2
+
+-- a byte below the link count is a link, and no other
+link-byte : (low high : List ℕ) (i k : ℕ) → Paired low high → k < length low → hopAt low high i k ≡ leaving low high i k
+unfolding hopAt
+link-byte low high i k paired within =
+    let few = paired .few in
+    rw (ne-eqb k hereByte (λ e. omega arith), ne-eqb k nowhereByte (λ e. omega arith))
 
 module _ (R : Rows) (A : Accepted R) where
-  open Rows R using (nodes as n, low)
+  open Rows R using (nodes as n, low, high)
 
-  -- an interface is named by the node that it enters
-  pub hop-is : (f i : ℕ) → f < 2 * length low → tail (networkOf R) f ≡ i → hopAt R i (head (networkOf R) f) ≡ onward f
-  unfolding hopAt leads
+  -- an interface enters a node
+  pub head-below : (f : ℕ) → f < 2 * length low → head (networkOf R) f < n
+  head-below f h = head-node (networkOf R) (well-formed R A) f (interface-present R f h)
+
+  pub paired : Paired low high
+  paired = record { same = A .high-row; few = A .few-links }
+
+  -- the two ends of a link are not one node
+  ends-apart : (k : ℕ) → k < length low → getD low k 0 ≢ getD high k 0
+  ends-apart k within e = omega (arith, A .joins k within .below)
+
+  -- an interface is named, at the node that it leaves, by its link
+  pub hop-is : (f i : ℕ) → f < 2 * length low → tail (networkOf R) f ≡ i → hopAt low high i (link f) ≡ onward f
   hop-is f i f-below t =
-      let v = head (networkOf R) f in
-      let node : v < n = head-below R A f f-below in
-      rw (
-        ne-eqb v hereByte (λ e. omega (arith, node, A .few-nodes)),
-        ne-eqb v nowhereByte (λ e. omega (arith, node, A .few-nodes)),
-        interface-is R A f i v f-below t refl,
-      )
+      link-byte low high i (link f) paired numbered ∙ go (two-sides f) (leaves low high i (link f))
+    where
+      numbered : link f < length low
+      numbered = present-row R (link f) (interface-present R f f-below)
 
-  module _ (map : List ℕ) (M : Neighbours R map) (i byte : ℕ) (i-node : i < n) where
-    abbrev at : ℕ
-    at = getD map (mostNodes * i + byte) 0
+      low-tail : f ≡ 2 * link f → getD low (link f) 0 ≡ i
+      low-tail e = sym (tail-from-low (link f) (networkOf R)) ∙ ap (tail (networkOf R)) (sym e) ∙ t
 
-    -- a byte that is no node leads nowhere
-    no-node : mostNodes ≤ byte → interfaceTo R i byte ≡ none
-    no-node h = go (interfaceTo R i byte) refl
-      where
-        go : (o : Option ℕ) → interfaceTo R i byte ≡ o → o ≡ none
-        go none e = refl
-        go (some f) e =
-            let (f-below, t, s) = interface-found R i byte e in
-            absurd (omega (arith, head-below R A f f-below, s, A .few-nodes))
+      high-tail : f ≡ 2 * link f + 1 → getD high (link f) 0 ≡ i
+      high-tail e = sym (tail-from-high (link f) (networkOf R)) ∙ ap (tail (networkOf R)) (sym e) ∙ t
 
-    -- 254 and 255 are no nodes either, so the byte's answer is the search's
-    by-search : foundBy R (hopAt R i byte) ≡ foundBy R (leads (interfaceTo R i byte))
-    unfolding hopAt foundBy leads
-    by-search =
-        elim (ℕ-discrete byte hereByte) [
-          | yes e ↦ simp (eq-eqb byte hereByte e, no-node (omega arith))
-          | no e ↦ elim (ℕ-discrete byte nowhereByte) [
-            | yes q ↦ simp (ne-eqb byte hereByte e, eq-eqb byte nowhereByte q, no-node (omega arith))
-            | no q ↦ simp (ne-eqb byte hereByte e, ne-eqb byte nowhereByte q)
-          ]
+      go : (f ≡ 2 * link f) ⊎ (f ≡ 2 * link f + 1) → {h : Hop} → Leaves low high i (link f) h → h ≡ onward f
+      go side (no-link over) = absurd (omega (arith, numbered))
+      go (inl e) (from-low within at-low) = ap onward (sym e)
+      go (inr e) (from-low within at-low) = absurd (ends-apart (link f) within (at-low ∙ sym (high-tail e)))
+      go (inl e) (from-high within not-low at-high) = absurd (not-low (low-tail e))
+      go (inr e) (from-high within not-low at-high) = ap onward (sym e)
+      go (inl e) (apart within not-low not-high) = absurd (not-low (low-tail e))
+      go (inr e) (apart within not-low not-high) = absurd (not-high (high-tail e))
+
+-- the answers of the look-up, in the order of its tests
+module _ (low high : List ℕ) (i k : ℕ) where
+  -- the two ends as the code reads them
+  abbrev rows : Rows
+  rows = record { nodes = 0; low = low; high = high; weight = [] }
+
+  enters-high : headOf low high (2 * k) ≡ getD high k 0
+  enters-high = sym (head-of rows (2 * k)) ∙ head-from-low k (networkOf rows)
+
+  enters-low : headOf low high (2 * k + 1) ≡ getD low k 0
+  enters-low = sym (head-of rows (2 * k + 1)) ∙ head-from-high k (networkOf rows)
+
+  pub found-no-link : length low ≤ k → Absent ≡ foundBy low high (hopAt low high i k)
+  unfolding hopAt foundBy leaving
+  found-no-link over =
+      elim (ℕ-discrete k hereByte) [
+        | yes e ↦ simp (eq-eqb k hereByte e)
+        | no e ↦ elim (ℕ-discrete k nowhereByte) [
+          | yes q ↦ simp (ne-eqb k hereByte e, eq-eqb k nowhereByte q)
+          | no q ↦ simp (ne-eqb k hereByte e, ne-eqb k nowhereByte q, le-leb (length low) k over)
         ]
+      ]
 
-    at-place : byte < mostNodes → at ≡ interfaceByte (interfaceTo R i byte)
-    at-place h = M .bytes i byte (omega (arith, A .few-nodes)) h
+  module _ (pair : Paired low high) (within : k < length low) where
+    by-link : foundBy low high (hopAt low high i k) ≡ foundBy low high (leaving low high i k)
+    by-link = ap (foundBy low high) (link-byte low high i k pair within)
 
-    -- the three answers of the look-up, in the order of its tests
-    pub found-no-node : mostNodes ≤ byte → Absent ≡ foundBy R (hopAt R i byte)
-    unfolding foundBy leads
-    found-no-node h = sym (by-search ∙ ap (λ (o : Option ℕ). foundBy R (leads o)) (no-node h))
+    pub found-from-low : getD low k 0 ≡ i → Next (record { 0 = getD high k 0 }) (record { 0 = 2 * k }) ≡ foundBy low high (hopAt low high i k)
+    unfolding foundBy leaving
+    found-from-low at-low = sym (by-link ∙ simp (lt-leb (length low) k within, eq-eqb (getD low k 0) i at-low, enters-high))
 
-    pub found-apart : byte < mostNodes → at ≡ nowhereByte → Absent ≡ foundBy R (hopAt R i byte)
-    unfolding foundBy leads interfaceByte
-    found-apart h apart = sym (by-search ∙ go (interfaceTo R i byte) refl)
-      where
-        go : (o : Option ℕ) → interfaceTo R i byte ≡ o → foundBy R (leads o) ≡ Absent
-        go none e = refl
-        go (some f) e =
-            let (f-below, t, s) = interface-found R i byte e in
-            let is : at ≡ f = at-place h ∙ ap interfaceByte e in
-            absurd (omega (arith, A .few-links))
+    module _ (not-low : getD low k 0 ≢ i) where
+      pub found-from-high : getD high k 0 ≡ i
+          → Next (record { 0 = getD low k 0 }) (record { 0 = 2 * k + 1 }) ≡ foundBy low high (hopAt low high i k)
+      unfolding foundBy leaving
+      found-from-high at-high =
+          sym (by-link ∙ simp (lt-leb (length low) k within, ne-eqb (getD low k 0) i not-low, eq-eqb (getD high k 0) i at-high, enters-low))
 
-    pub found-next : byte < mostNodes → at ≢ nowhereByte → Next (record { 0 = byte }) (record { 0 = at }) ≡ foundBy R (hopAt R i byte)
-    unfolding foundBy leads interfaceByte
-    found-next h joined = sym (by-search ∙ go (interfaceTo R i byte) refl)
-      where
-        go : (o : Option ℕ) → interfaceTo R i byte ≡ o → foundBy R (leads o) ≡ Next (record { 0 = byte }) (record { 0 = at })
-        go none e = absurd (joined (at-place h ∙ ap interfaceByte e))
-        go (some f) e =
-            let (f-below, t, s) = interface-found R i byte e in
-            let is : at ≡ f = at-place h ∙ ap interfaceByte e in
-            rw (is, s)
+      pub found-apart : getD high k 0 ≢ i → Absent ≡ foundBy low high (hopAt low high i k)
+      unfolding foundBy leaving
+      found-apart not-high =
+          sym (by-link ∙ simp (lt-leb (length low) k within, ne-eqb (getD low k 0) i not-low, ne-eqb (getD high k 0) i not-high))
 
 -- what an answer tells of the entry
-module _ (R : Rows) where
-  pub next-onward : (h : Hop) {v : Node} {f : Interface} → Next v f ≡ foundBy R h → h ≡ onward (f .0)
+module _ (low high : List ℕ) where
+  pub next-onward : (h : Hop) {v : Node} {f : Interface} → Next v f ≡ foundBy low high h → h ≡ onward (f .0)
   unfolding foundBy
   next-onward here e = absurd (let z : _≡_ {A = ℕ} 0 1 = cc in omega arith)
   next-onward nowhere e = absurd (let z : _≡_ {A = ℕ} 0 1 = cc in omega arith)
@@ -135,45 +199,45 @@ module _ (R : Rows) where
       let same : f ≡ record { 0 = g } = cc in
       rw same
 
-  pub next-node : (h : Hop) {v : Node} {f : Interface} → Next v f ≡ foundBy R h → v .0 ≡ head (networkOf R) (f .0)
+  pub next-node : (h : Hop) {v : Node} {f : Interface} → Next v f ≡ foundBy low high h → v .0 ≡ headOf low high (f .0)
   unfolding foundBy
   next-node here e = absurd (let z : _≡_ {A = ℕ} 0 1 = cc in omega arith)
   next-node nowhere e = absurd (let z : _≡_ {A = ℕ} 0 1 = cc in omega arith)
   next-node (onward g) {v} {f} e =
       let same : f ≡ record { 0 = g } = cc in
-      let there : v ≡ record { 0 = head (networkOf R) g } = cc in
+      let there : v ≡ record { 0 = headOf low high g } = cc in
       rw (same, there)
 
-  pub absent-leadless : (h : Hop) → Absent ≡ foundBy R h → Leadless h
+  pub absent-leadless : (h : Hop) → Absent ≡ foundBy low high h → Leadless h
   unfolding foundBy
   absent-leadless here e = at-destination
   absent-leadless nowhere e = without-path
   absent-leadless (onward g) e = absurd (let z : _≡_ {A = ℕ} 0 1 = cc in omega arith)
 
 -- whether one entry passes, in the order of the code's tests; where it is neither the node's own nor 255, by the answer of the look-up
-module _ (R : Rows) (i d byte : ℕ) where
-  pub own-passes : d ≡ i → eqb byte hereByte ≡ bytePasses R i d byte
+module _ (low high : List ℕ) (i d byte : ℕ) where
+  pub own-passes : d ≡ i → eqb byte hereByte ≡ bytePasses low high i d byte
   unfolding bytePasses
   own-passes own = simp (eq-eqb d i own)
 
   module _ (other : d ≢ i) where
-    pub nowhere-passes : byte ≡ nowhereByte → true ≡ bytePasses R i d byte
+    pub nowhere-passes : byte ≡ nowhereByte → true ≡ bytePasses low high i d byte
     unfolding bytePasses
     nowhere-passes e = simp (ne-eqb d i other, eq-eqb byte nowhereByte e)
 
-    module _ (named : byte ≢ nowhereByte) {answer : Found} (told : answer ≡ foundBy R (hopAt R i byte)) where
-      by-hop : bytePasses R i d byte ≡ leadsOn (hopAt R i byte)
+    module _ (named : byte ≢ nowhereByte) {answer : Found} (told : answer ≡ foundBy low high (hopAt low high i byte)) where
+      by-hop : bytePasses low high i d byte ≡ leadsOn (hopAt low high i byte)
       unfolding bytePasses
       by-hop = simp (ne-eqb d i other, ne-eqb byte nowhereByte named)
 
-      pub absent-fails : answer ≡ Absent → false ≡ bytePasses R i d byte
+      pub absent-fails : answer ≡ Absent → false ≡ bytePasses low high i d byte
       unfolding leadsOn
-      absent-fails e = sym (by-hop ∙ go (absent-leadless R _ (sym e ∙ told)))
+      absent-fails e = sym (by-hop ∙ go (absent-leadless low high _ (sym e ∙ told)))
         where
           go : {h : Hop} → Leadless h → leadsOn h ≡ false
           go at-destination = refl
           go without-path = refl
 
-      pub next-passes : {v : Node} {f : Interface} → answer ≡ Next v f → true ≡ bytePasses R i d byte
+      pub next-passes : {v : Node} {f : Interface} → answer ≡ Next v f → true ≡ bytePasses low high i d byte
       unfolding leadsOn
-      next-passes e = sym (by-hop ∙ ap leadsOn (next-onward R _ (sym e ∙ told)))
+      next-passes e = sym (by-hop ∙ ap leadsOn (next-onward low high _ (sym e ∙ told)))

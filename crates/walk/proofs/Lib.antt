@@ -1,4 +1,3 @@
-pub mod Lookup
 pub mod Hops
 pub mod Below
 pub mod EntriesPass

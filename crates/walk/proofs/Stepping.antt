@@ -16,7 +16,7 @@ use Rattle.net.specs.declared.interface.Node.{Node}
 use Rattle.tables.specs.Lent.{LentTables}
 use Rattle.walk.specs.Lent.{hopAt, tablesFor}
 use Rattle.walk.specs.Step.{decides, entryRead, told, stepAt, stepOf}
-use Rattle.walk.specs.inner.Ground.{Ground}
+use Rattle.walk.specs.inner.Ground.{Ground, rowsOn, tablesOn}
 use Rattle.walk.specs.inner.Steps.{stepAround}
 use Rattle.walk.specs.declared.question.Question.{Question}
 use Rattle.walk.specs.declared.steps.Asked.{Asked}
@@ -34,12 +34,12 @@ step-lost R T question i away l =
       step-nothing (fails (question .failure)) (tablesFor R T (question .destination .0) .backwarding) l,
     )
 
-module _ {n : ℕ} {map forwarding backwarding : List ℕ} (on : Ground n map forwarding backwarding) (question : Question) (i : ℕ) where
+module _ {n : ℕ} {low high forwarding backwarding : List ℕ} (on : Ground n low high forwarding backwarding) (question : Question) (i : ℕ) where
   abbrev R : Rows
-  R = on .rows
+  R = rowsOn on
 
   abbrev T : LentTables
-  T = on .tables
+  T = tablesOn on
 
   abbrev d : ℕ
   d = question .destination .0
@@ -50,11 +50,11 @@ module _ {n : ℕ} {map forwarding backwarding : List ℕ} (on : Ground n map fo
 
   -- past the failed link, by the backwarding entry of interface f
   module _ (f : ℕ) (leaves : tail (networkOf R) f ≡ i) where
-    pub around-absent : Leadless (hopAt R i (getD backwarding (f * n + d) 0)) → Dropped ≡ stepAround R T question f
+    pub around-absent : Leadless (hopAt low high i (getD backwarding (f * n + d) 0)) → Dropped ≡ stepAround R T question f
     unfolding stepAround told
     around-absent l = rw (backwarding-read on d f i leaves, around-nothing (fails (question .failure)) l)
 
-    module _ (g : Interface) (leads : hopAt R i (getD backwarding (f * n + d) 0) ≡ onward (g .0)) where
+    module _ (g : Interface) (leads : hopAt low high i (getD backwarding (f * n + d) 0) ≡ onward (g .0)) where
       pub around-drops : fails (question .failure) (link (g .0)) ≡ true → Dropped ≡ stepAround R T question f
       unfolding stepAround told
       around-drops down = rw (backwarding-read on d f i leaves, leads, around-failed (fails (question .failure)) (g .0) down)
@@ -70,14 +70,14 @@ module _ {n : ℕ} {map forwarding backwarding : List ℕ} (on : Ground n map fo
   unfolding stepAt
   step-delivered entry e = rw (eq-eqb i d e)
 
-  module _ (away : i ≢ d) (byte : ℕ) (f : Interface) (leads : hopAt R i byte ≡ onward (f .0)) where
+  module _ (away : i ≢ d) (byte : ℕ) (f : Interface) (leads : hopAt low high i byte ≡ onward (f .0)) where
     pub step-turns : fails (question .failure) (link (f .0)) ≡ true
-        → stepAround R T question (f .0) ≡ stepAt R T question i (hopAt R i byte)
+        → stepAround R T question (f .0) ≡ stepAt R T question i (hopAt low high i byte)
     unfolding stepAt stepAround
     step-turns down = rw (ne-eqb i d away, leads, step-around (fails (question .failure)) (f .0) (tablesFor R T d .backwarding) down)
 
     pub step-crosses : (v : Node) → v .0 ≡ head (networkOf R) (f .0) → fails (question .failure) (link (f .0)) ≡ false
-        → Next v f ≡ stepAt R T question i (hopAt R i byte)
+        → Next v f ≡ stepAt R T question i (hopAt low high i byte)
     unfolding stepAt told
     step-crosses v enters up =
         rw (ne-eqb i d away, leads, step-along (fails (question .failure)) (f .0) (tablesFor R T d .backwarding) up) (crossed v f enters)
@@ -85,13 +85,13 @@ module _ {n : ℕ} {map forwarding backwarding : List ℕ} (on : Ground n map fo
 -- the step where it is asked
 module _ (R : Rows) (T : LentTables) (asked : Asked) (question : Question) where
   pub start-steps : (i : Node) → asked ≡ Start i
-      → stepAt R T question (i .0) (hopAt R (i .0) (getD (T .routing) (i .0 * R .nodes + question .destination .0) 0))
+      → stepAt R T question (i .0) (hopAt (R .low) (R .high) (i .0) (getD (T .routing) (i .0 * R .nodes + question .destination .0) 0))
       ≡ stepOf R T asked question
   unfolding stepOf decides entryRead tablesFor
   start-steps i e = rw e
 
   pub arrival-steps : (h : Interface) (i : Node) → asked ≡ Arrival h → i .0 ≡ head (networkOf R) (h .0)
-      → stepAt R T question (i .0) (hopAt R (i .0) (getD (T .forwarding) (h .0 * R .nodes + question .destination .0) 0))
+      → stepAt R T question (i .0) (hopAt (R .low) (R .high) (i .0) (getD (T .forwarding) (h .0 * R .nodes + question .destination .0) 0))
       ≡ stepOf R T asked question
   unfolding stepOf decides entryRead tablesFor
   arrival-steps h i e same = rw (e, same)

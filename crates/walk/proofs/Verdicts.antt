@@ -47,14 +47,14 @@ module _ (R : Rows) (T : LentTables) where
       refusal e = let z : tableLength ≡ accepted = sym (ap number-of (is-refused tableLength short)) ∙ e in omega arith
 
   module _ (long : tablesShort n links T ≡ false) where
-    by-entries : tablesVerdict R T ≡ refusedIf (not (tablesPass R T)) tableEntry
+    by-entries : tablesVerdict R T ≡ refusedIf (not (tablesPass n (R .low) (R .high) T)) tableEntry
     unfolding tablesVerdict
     by-entries = or-else-second _ _ (ap number-of (not-refused tableLength long))
 
-    pub entries-refused : tablesPass R T ≡ false → verdict tableEntry ≡ tablesVerdict R T
+    pub entries-refused : tablesPass n (R .low) (R .high) T ≡ false → verdict tableEntry ≡ tablesVerdict R T
     entries-refused e = sym (by-entries ∙ is-refused tableEntry (rw e))
 
-    pub tables-taken : tablesPass R T ≡ true → verdict accepted ≡ tablesVerdict R T
+    pub tables-taken : tablesPass n (R .low) (R .high) T ≡ true → verdict accepted ≡ tablesVerdict R T
     tables-taken e = sym (by-entries ∙ not-refused tableEntry (rw e))
 
   tables-fine : tablesVerdict R T .number ≡ accepted → LongEnough n links T
@@ -95,7 +95,7 @@ module _ (R : Rows) (T : LentTables) where
       lent-long = tables-fine (second-accepted (verdict question) _ (second-accepted (checkNetwork R) _ whole))
 
     -- and the other way round
-    pub lent-accepted : Accepted R → question ≡ accepted → LongEnough n links T → tablesPass R T ≡ true
+    pub lent-accepted : Accepted R → question ≡ accepted → LongEnough n links T → tablesPass n (R .low) (R .high) T ≡ true
         → lentVerdict R T question .number ≡ accepted
     unfolding lentVerdict
     lent-accepted A e long pass =

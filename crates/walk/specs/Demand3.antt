@@ -51,7 +51,8 @@ pub record AtFailedLink (N : Network) (failure : Failure) (s d : ℕ) (crossed :
   pub hops : r .hops + 2 ≤ N .nodes
 
 -- The whole, of a walk from s to d that answered r and left the trace `after` where `before` stood. `crossed` are the interfaces
--- crossed, "each working"; the count is their number, and the trace is the nodes of that chain, source first.
+-- crossed, "each working": "A hop of demand 3 is over the link of the interface that its step answers" (document 02, L5). The count is
+-- their number, and the trace is the nodes of that chain, source first.
 pub record Demand3 (N : Network) (failure : Failure) (s d : ℕ) (before : List ℕ) (r : Walked) (after : List ℕ) : Type 0 where
   pub number : r .number ≡ accepted
   pub place : r .place ≡ 0

@@ -4,62 +4,51 @@ use mathlib.Core.Bool.{Bool, true, false, not}
 use mathlib.Core.Path.{_≡_}
 use mathlib.Core.Logic.{_≢_, _⊎_}
 use mathlib.Core.List.{List}
-use mathlib.Core.Option.{Option, none, some}
 use lib.ListN.{length, getD}
-use lib.Dec.{eqb}
-use Rattle.graph.specs.Network.{Network, link, tail, head}
+use lib.Dec.{eqb, leb}
+use Rattle.graph.specs.Network.{Network, tail, head}
 use Rattle.graph.specs.Entries.{Hop, here, onward, nowhere}
 use Rattle.graph.specs.Walk.{Tables}
 use Rattle.net.specs.Choice.{pick, either, both}
 use Rattle.net.specs.Refusals.{tableLength, tableEntry}
-use Rattle.net.specs.Rows.{Rows, networkOf}
+use Rattle.net.specs.Rows.{Rows, networkOf, tailOf, headOf}
 use Rattle.net.specs.Check.{checkNetwork, verdict, orElse, refusedIf}
 use Rattle.net.specs.Entry.{hereByte, nowhereByte}
 use Rattle.net.specs.declared.check.Verdict.{Verdict}
 use Rattle.tables.specs.Lent.{LentTables, tablesShort}
 
--- the first interface, of `left` from f on, that leads from i to v
-unfoldable pub interfaceFrom : ℕ → Rows → ℕ → ℕ → ℕ → Option ℕ
-interfaceFrom zero R i v f = none
-interfaceFrom (suc left) R i v f =
-    let more = interfaceFrom left R i v (suc f) in
-    pick (both (eqb (tail (networkOf R) f) i) (eqb (head (networkOf R) f) v)) (some f) more
+-- "Interface 2k is link k entered from the low end towards the high end; interface 2k + 1 is the other direction": the one by which
+-- link k leaves node i. What is no link, or not a link at i, leads nowhere; refusal 16 shuts that out.
+unfoldable pub leaving : List ℕ → List ℕ → ℕ → ℕ → Hop
+leaving low high i k =
+    pick (leb (length low) k) nowhere
+    (pick (eqb (getD low k 0) i) (onward (2 * k))
+    (pick (eqb (getD high k 0) i) (onward (2 * k + 1)) nowhere))
 
--- the interface that leads from i to v ("At most one link joins a pair", so the node names it)
-unfoldable pub interfaceTo : Rows → ℕ → ℕ → Option ℕ
-interfaceTo R i v = interfaceFrom (2 * length (R .low)) R i v 0
-
--- a node that no interface leads to is nowhere; refusal 16 shuts that out
-unfoldable pub leads : Option ℕ → Hop
-leads none = nowhere
-leads (some f) = onward f
-
--- what a byte says at the deciding node i
-unfoldable pub hopAt : Rows → ℕ → ℕ → Hop
-hopAt R i byte = pick (eqb byte hereByte) here (pick (eqb byte nowhereByte) nowhere (leads (interfaceTo R i byte)))
+-- what a byte says at the deciding node i, by the rows of low and of high ends
+unfoldable pub hopAt : List ℕ → List ℕ → ℕ → ℕ → Hop
+hopAt low high i byte = pick (eqb byte hereByte) here (pick (eqb byte nowhereByte) nowhere (leaving low high i byte))
 
 -- the entries for one destination: a routing row is a node's, a forwarding or backwarding row an interface's. A forwarding entry is
 -- decided at the head of its interface, a backwarding entry at the tail.
 unfoldable pub tablesFor : Rows → LentTables → ℕ → Tables
 tablesFor R T d =
     record {
-      routing = λ i. hopAt R i (getD (T .routing) (i * R .nodes + d) 0);
-      forwarding = λ h. hopAt R (head (networkOf R) h) (getD (T .forwarding) (h * R .nodes + d) 0);
-      backwarding = λ h. hopAt R (tail (networkOf R) h) (getD (T .backwarding) (h * R .nodes + d) 0);
+      routing = λ i. hopAt (R .low) (R .high) i (getD (T .routing) (i * R .nodes + d) 0);
+      forwarding = λ h. hopAt (R .low) (R .high) (head (networkOf R) h) (getD (T .forwarding) (h * R .nodes + d) 0);
+      backwarding = λ h. hopAt (R .low) (R .high) (tail (networkOf R) h) (getD (T .backwarding) (h * R .nodes + d) 0);
     }
 
--- an interface of a present link leads from i to v
-pub record Neighbour (N : Network) (i v : ℕ) : Type 0 where
-  pub by : ℕ
-  pub present : N .Present (link by)
-  pub from : tail N by ≡ i
-  pub to : head N by ≡ v
+-- k is a link at node i, failed or not
+pub record LinkAt (N : Network) (i k : ℕ) : Type 0 where
+  pub numbered : k < N .links
+  pub joins : (N .low k ≡ i) ⊎ (N .high k ≡ i)
 
 -- One entry that passes 16: "some entry for the deciding node itself isn't 254, or some other entry is neither 255 nor a neighbour of
--- the deciding node" does not hold of it.
+-- the deciding node" does not hold of it, and "Refusal 16 asks for a link at the deciding node in place of a neighbour" (document 02, L5).
 pub record Passes (N : Network) (i d byte : ℕ) : Type 0 where
   pub own : d ≡ i → byte ≡ hereByte
-  pub other : d ≢ i → (byte ≡ nowhereByte) ⊎ Neighbour N i byte
+  pub other : d ≢ i → (byte ≡ nowhereByte) ⊎ LinkAt N i byte
 
 -- a table of rows of n bytes, each row with its deciding node
 abbrev pub TablePasses : Network → ℕ → (ℕ → ℕ) → List ℕ → Type 0
@@ -81,25 +70,26 @@ leadsOn here = false
 leadsOn (onward f) = true
 leadsOn nowhere = false
 
-unfoldable pub bytePasses : Rows → ℕ → ℕ → ℕ → Bool
-bytePasses R i d byte = pick (eqb d i) (eqb byte hereByte) (either (eqb byte nowhereByte) (leadsOn (hopAt R i byte)))
+unfoldable pub bytePasses : List ℕ → List ℕ → ℕ → ℕ → ℕ → Bool
+bytePasses low high i d byte = pick (eqb d i) (eqb byte hereByte) (either (eqb byte nowhereByte) (leadsOn (hopAt low high i byte)))
 
-unfoldable pub tablePasses : Rows → ℕ → (ℕ → ℕ) → List ℕ → Bool
-tablePasses R rows deciding table =
-    allBelow rows (λ row. allBelow (R .nodes) (λ d. bytePasses R (deciding row) d (getD table (row * R .nodes + d) 0)))
+unfoldable pub tablePasses : ℕ → List ℕ → List ℕ → ℕ → (ℕ → ℕ) → List ℕ → Bool
+tablePasses n low high rows deciding table =
+    allBelow rows (λ row. allBelow n (λ d. bytePasses low high (deciding row) d (getD table (row * n + d) 0)))
 
-unfoldable pub tablesPass : Rows → LentTables → Bool
-tablesPass R T =
-    both (tablePasses R (R .nodes) (λ i. i) (T .routing))
-    (both (tablePasses R (2 * length (R .low)) (head (networkOf R)) (T .forwarding))
-    (tablePasses R (2 * length (R .low)) (tail (networkOf R)) (T .backwarding)))
+unfoldable pub tablesPass : ℕ → List ℕ → List ℕ → LentTables → Bool
+tablesPass n low high T =
+    both (tablePasses n low high n (λ i. i) (T .routing))
+    (both (tablePasses n low high (2 * length low) (headOf low high) (T .forwarding))
+    (tablePasses n low high (2 * length low) (tailOf low high) (T .backwarding)))
 
 -- 14, then 16, of tables lent beside an accepted network
 unfoldable pub tablesVerdict : Rows → LentTables → Verdict
 tablesVerdict R T =
-    orElse (refusedIf (tablesShort (R .nodes) (length (R .low)) T) tableLength) (refusedIf (not (tablesPass R T)) tableEntry)
+    orElse (refusedIf (tablesShort (R .nodes) (length (R .low)) T) tableLength)
+    (refusedIf (not (tablesPass (R .nodes) (R .low) (R .high) T)) tableEntry)
 
 -- Every entry that reads tables checks the network, then what it is asked (the number of that refusal, or 0), then the tables: "9, 3, 4,
--- then link by link 5, 7, 6 [..] Then its own in the order 13, 12, 11 (source, then destination), 10, 14, 16".
+-- then link by link 5, 7, 6" (and 7: document 02, L5) "[..] Then its own in the order 13, 12, 11 (source, then destination), 10, 14, 16".
 unfoldable pub lentVerdict : Rows → LentTables → ℕ → Verdict
 lentVerdict R T question = orElse (checkNetwork R) (orElse (verdict question) (tablesVerdict R T))

@@ -6,7 +6,7 @@ ghost use Prim.Native.Nat.{_+_, _*_};
 ghost use Rattle.graph.specs.Network.{tail};
 ghost use Rattle.net.specs.Rows.{networkOf};
 ghost use Rattle.walk.specs.Walk.{endingNumber, courseOf};
-ghost use Rattle.walk.specs.inner.Ground.{Ground};
+ghost use Rattle.walk.specs.inner.Ground.{Ground, rowsOn, tablesOn};
 ghost use Rattle.walk.specs.inner.Moves.{lostEnding, HopLeft, movedOn, courseFrom, courseAround, Standing, Turning, Went};
 ghost use Rattle.walk.specs.inner.Moves.{Setting, WentFrom};
 use crate::lent::Found;
@@ -65,7 +65,8 @@ fn moved(packet: Packet, node: Node, entry: u8) -> Packet
 }
 
 fn forwarding_move(
-    map: &[u8],
+    low: &[u8],
+    high: &[u8],
     n: usize,
     forwarding: &[u8],
     backwarding: &[u8],
@@ -73,9 +74,9 @@ fn forwarding_move(
     packet: Packet,
     trace: &mut [u8],
 ) -> Outcome
-    requires { ⌜ Standing n (now map) (now forwarding) (now backwarding) question packet (now trace) ⌝ }
-    ensures { λ r. ⌜ ((on : Ground n (now (map .entry)) (now (forwarding .entry)) (now (backwarding .entry)))
-        → Went (networkOf (on .rows)) (courseFrom (on .rows) (on .tables) question packet)
+    requires { ⌜ Standing n (now low) (now high) (now forwarding) (now backwarding) question packet (now trace) ⌝ }
+    ensures { λ r. ⌜ ((on : Ground n (now (low .entry)) (now (high .entry)) (now (forwarding .entry)) (now (backwarding .entry)))
+        → Went (networkOf (rowsOn on)) (courseFrom (rowsOn on) (tablesOn on) question packet)
         (packet .hops) (now (trace .entry)) r (now (trace .exit))) ⌝ }
 {
     if packet.node.0 == question.destination.0 {
@@ -90,7 +91,7 @@ fn forwarding_move(
             hops: packet.hops,
         };
     }
-    let Found::Next(node, f) = look_up(map, packet.node, packet.entry) else {
+    let Found::Next(node, f) = look_up(low, high, packet.node, packet.entry) else {
         return Outcome {
             ending: lost_ending(packet.arrived),
             hops: packet.hops,
@@ -98,13 +99,24 @@ fn forwarding_move(
     };
     let failure = question.failure;
     if blocked(failure, f) {
-        return backwarding_move(map, n, forwarding, backwarding, question, packet, f, trace);
+        return backwarding_move(
+            low,
+            high,
+            n,
+            forwarding,
+            backwarding,
+            question,
+            packet,
+            f,
+            trace,
+        );
     }
     let next = packet.hops + 1;
     trace[next] = node.0 as u8;
     let entry = forwarding[f.0 * n + question.destination.0];
     forwarding_move(
-        map,
+        low,
+        high,
         n,
         forwarding,
         backwarding,
@@ -116,7 +128,8 @@ fn forwarding_move(
 
 // At a node whose entry leads over the failed link by interface f.
 fn backwarding_move(
-    map: &[u8],
+    low: &[u8],
+    high: &[u8],
     n: usize,
     forwarding: &[u8],
     backwarding: &[u8],
@@ -125,14 +138,14 @@ fn backwarding_move(
     f: Interface,
     trace: &mut [u8],
 ) -> Outcome
-    requires { ⌜ Turning n (now map) (now forwarding) (now backwarding) question packet (f .0) (now trace) ⌝ }
-    ensures { λ r. ⌜ ((on : Ground n (now (map .entry)) (now (forwarding .entry)) (now (backwarding .entry)))
-        → tail (networkOf (on .rows)) (f .0) ≡ packet .node .0
-        → Went (networkOf (on .rows)) (courseAround (on .rows) (on .tables) question packet (f .0))
+    requires { ⌜ Turning n (now low) (now high) (now forwarding) (now backwarding) question packet (f .0) (now trace) ⌝ }
+    ensures { λ r. ⌜ ((on : Ground n (now (low .entry)) (now (high .entry)) (now (forwarding .entry)) (now (backwarding .entry)))
+        → tail (networkOf (rowsOn on)) (f .0) ≡ packet .node .0
+        → Went (networkOf (rowsOn on)) (courseAround (rowsOn on) (tablesOn on) question packet (f .0))
         (packet .hops) (now (trace .entry)) r (now (trace .exit))) ⌝ }
 {
     let back = backwarding[f.0 * n + question.destination.0];
-    let Found::Next(node, g) = look_up(map, packet.node, back) else {
+    let Found::Next(node, g) = look_up(low, high, packet.node, back) else {
         return Outcome {
             ending: DROPPED,
             hops: packet.hops,
@@ -149,7 +162,8 @@ fn backwarding_move(
     trace[next] = node.0 as u8;
     let entry = forwarding[g.0 * n + question.destination.0];
     forwarding_move(
-        map,
+        low,
+        high,
         n,
         forwarding,
         backwarding,
@@ -161,7 +175,6 @@ fn backwarding_move(
 
 // A walk over tables that have been checked.
 pub fn walk_from(
-    map: &[u8],
     n: usize,
     low: &[u8],
     high: &[u8],
@@ -176,7 +189,7 @@ pub fn walk_from(
 ) -> Outcome
     requires { ⌜ Setting (record { nodes = n; low = now low; high = now high; weight = now weight })
         (record { routing = now routing; forwarding = now forwarding; backwarding = now backwarding })
-        (now map) (source .0) question limit (now trace) ⌝ }
+        (source .0) question limit (now trace) ⌝ }
     ensures { λ r. ⌜ WentFrom
         (networkOf (record { nodes = n; low = now (low .entry); high = now (high .entry); weight = now (weight .entry) }))
         (source .0)
@@ -194,5 +207,14 @@ pub fn walk_from(
         hops: 0,
         arrived: false,
     };
-    forwarding_move(map, n, forwarding, backwarding, question, packet, trace)
+    forwarding_move(
+        low,
+        high,
+        n,
+        forwarding,
+        backwarding,
+        question,
+        packet,
+        trace,
+    )
 }

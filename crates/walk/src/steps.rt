@@ -4,12 +4,11 @@ ghost use Rattle.graph.specs.Network.{tail};
 ghost use Rattle.net.specs.Rows.{networkOf};
 ghost use Rattle.walk.specs.Lent.{hopAt};
 ghost use Rattle.walk.specs.Step.{badInterface, badStart, stepNumber, stepAt, stepAnswer};
-ghost use Rattle.walk.specs.inner.Ground.{Ground};
+ghost use Rattle.walk.specs.inner.Ground.{Ground, rowsOn, tablesOn};
 ghost use Rattle.walk.specs.inner.Steps.{stepAround, Placed, Rerouted};
 use crate::lent::Found;
 use crate::lent::lent_verdict;
 use crate::lent::look_up;
-use crate::lent::neighbours;
 use crate::question::Question;
 use net::Failure;
 use net::Interface;
@@ -77,7 +76,8 @@ fn step_number(n: usize, links: usize, asked: Asked, question: Question) -> u8
 
 // Past the failed link: the backwarding entry of interface f, which leaves the node.
 fn step_around(
-    map: &[u8],
+    low: &[u8],
+    high: &[u8],
     n: usize,
     forwarding: &[u8],
     backwarding: &[u8],
@@ -85,12 +85,12 @@ fn step_around(
     node: Node,
     f: Interface,
 ) -> Stepped
-    requires { ⌜ Rerouted n (now map) (now forwarding) (now backwarding) question (node .0) (f .0) ⌝ }
-    ensures { λ r. ⌜ ((on : Ground n (now (map .entry)) (now (forwarding .entry)) (now (backwarding .entry)))
-        → tail (networkOf (on .rows)) (f .0) ≡ node .0 → r ≡ stepAround (on .rows) (on .tables) question (f .0)) ⌝ }
+    requires { ⌜ Rerouted n (now low) (now high) (now forwarding) (now backwarding) question (node .0) (f .0) ⌝ }
+    ensures { λ r. ⌜ ((on : Ground n (now (low .entry)) (now (high .entry)) (now (forwarding .entry)) (now (backwarding .entry)))
+        → tail (networkOf (rowsOn on)) (f .0) ≡ node .0 → r ≡ stepAround (rowsOn on) (tablesOn on) question (f .0)) ⌝ }
 {
     let back = backwarding[f.0 * n + question.destination.0];
-    let Found::Next(next, g) = look_up(map, node, back) else {
+    let Found::Next(next, g) = look_up(low, high, node, back) else {
         return Stepped::Dropped;
     };
     let failure = question.failure;
@@ -102,7 +102,8 @@ fn step_around(
 
 // The step at a node with the entry that is read there.
 fn step_at(
-    map: &[u8],
+    low: &[u8],
+    high: &[u8],
     n: usize,
     forwarding: &[u8],
     backwarding: &[u8],
@@ -110,19 +111,19 @@ fn step_at(
     node: Node,
     entry: u8,
 ) -> Stepped
-    requires { ⌜ Placed n (now map) (now forwarding) (now backwarding) question (node .0) ⌝ }
-    ensures { λ r. ⌜ ((on : Ground n (now (map .entry)) (now (forwarding .entry)) (now (backwarding .entry)))
-        → r ≡ stepAt (on .rows) (on .tables) question (node .0) (hopAt (on .rows) (node .0) entry)) ⌝ }
+    requires { ⌜ Placed n (now low) (now high) (now forwarding) (now backwarding) question (node .0) ⌝ }
+    ensures { λ r. ⌜ ((on : Ground n (now (low .entry)) (now (high .entry)) (now (forwarding .entry)) (now (backwarding .entry)))
+        → r ≡ stepAt (rowsOn on) (tablesOn on) question (node .0) (hopAt (now (low .entry)) (now (high .entry)) (node .0) entry)) ⌝ }
 {
     if node.0 == question.destination.0 {
         return Stepped::Delivered;
     }
-    let Found::Next(next, f) = look_up(map, node, entry) else {
+    let Found::Next(next, f) = look_up(low, high, node, entry) else {
         return Stepped::NothingToFollow;
     };
     let failure = question.failure;
     if blocked(failure, f) {
-        return step_around(map, n, forwarding, backwarding, question, node, f);
+        return step_around(low, high, n, forwarding, backwarding, question, node, f);
     }
     Stepped::Next(next, f)
 }
@@ -162,10 +163,10 @@ pub fn step(
     if verdict.number != refusal::NONE {
         return Stepped::Refused(verdict.number, verdict.place);
     }
-    let map = neighbours(n, low, high, weight);
     match asked {
         Asked::Start(i) => step_at(
-            &map,
+            low,
+            high,
             n,
             forwarding,
             backwarding,
@@ -174,7 +175,8 @@ pub fn step(
             routing[i.0 * n + d],
         ),
         Asked::Arrival(h) => step_at(
-            &map,
+            low,
+            high,
             n,
             forwarding,
             backwarding,

@@ -2,7 +2,6 @@
 ghost use mathlib.Core.Path.{_≡_};
 ghost use Rattle.walk.specs.Walk.{walkNumber, walkVerdict, walkAnswer, traceAfter};
 use crate::lent::lent_verdict;
-use crate::lent::neighbours;
 use crate::moves::walk_from;
 use crate::question::Question;
 use net::Failure;
@@ -123,9 +122,7 @@ pub fn walk(
             hops: 0,
         };
     }
-    let map = neighbours(n, low, high, weight);
     let outcome = walk_from(
-        &map,
         n,
         low,
         high,

@@ -10,7 +10,7 @@ use Rattle.net.specs.Rows.{Rows}
 use Rattle.net.specs.declared.failure.Failure.{Failure}
 use Rattle.tables.specs.Lent.{LentTables}
 use Rattle.walk.specs.Walk.{endingNumber, courseOf}
-use Rattle.walk.specs.inner.Neighbours.{Ready}
+use Rattle.walk.specs.inner.Reading.{Ready}
 use Rattle.report.specs.Line.{sumBelow, mostBelow, countsDelivered, countsOther, countsHops}
 use Rattle.report.specs.declared.counting.Line.{Line}
 
@@ -47,8 +47,8 @@ pub record OneMore (line : Line) (hops : ℕ) : Type 0 where
   pub short : hops ≤ reportHops
 
 -- what is known where the walks of a source are made, those of the sources before it having been counted
-pub record Source (R : Rows) (T : LentTables) (map : List ℕ) (s : ℕ) (line : Line) (trace : List ℕ) : Type 0 where
-  pub ready : Ready R T map
+pub record Source (R : Rows) (T : LentTables) (s : ℕ) (line : Line) (trace : List ℕ) : Type 0 where
+  pub ready : Ready R T
   pub source : s < R .nodes
   pub room : reportHops < length trace
   pub counted : AtMostWalks (s * R .nodes) line

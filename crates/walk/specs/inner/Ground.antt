@@ -1,16 +1,21 @@
--- The moves and the parts of a step are lent what they read and no more: the look-up and the two tables by interface. They promise their
--- answer for every network and tables that these belong to.
+-- The moves and the parts of a step are lent what they read and no more: the rows of ends and the two tables by interface. They promise
+-- their answer whatever the weights and the routing table are that these belong to.
 use Prim.Native.Nat.{ℕ}
-use mathlib.Core.Path.{_≡_}
 use mathlib.Core.List.{List}
 use Rattle.net.specs.Rows.{Rows}
 use Rattle.tables.specs.Lent.{LentTables}
-use Rattle.walk.specs.inner.Neighbours.{Ready}
+use Rattle.walk.specs.inner.Reading.{Ready}
 
-pub record Ground (n : ℕ) (map forwarding backwarding : List ℕ) : Type 0 where
-  pub rows : Rows
-  pub tables : LentTables
-  pub ready : Ready rows tables map
-  pub nodes : rows .nodes ≡ n
-  pub forwards : tables .forwarding ≡ forwarding
-  pub backwards : tables .backwarding ≡ backwarding
+pub record Ground (n : ℕ) (low high forwarding backwarding : List ℕ) : Type 0 where
+  pub weight : List ℕ
+  pub routing : List ℕ
+  pub ready : Ready (record { nodes = n; low = low; high = high; weight = weight })
+      (record { routing = routing; forwarding = forwarding; backwarding = backwarding })
+
+-- the network and the tables that they belong to
+module _ {n : ℕ} {low high forwarding backwarding : List ℕ} (on : Ground n low high forwarding backwarding) where
+  abbrev pub rowsOn : Rows
+  rowsOn = record { nodes = n; low = low; high = high; weight = on .weight }
+
+  abbrev pub tablesOn : LentTables
+  tablesOn = record { routing = on .routing; forwarding = forwarding; backwarding = backwarding }

@@ -13,7 +13,7 @@ use Rattle.net.specs.inner.Overwritten.{overwritten}
 use Rattle.tables.specs.Lent.{LentTables}
 use Rattle.walk.specs.Lent.{hopAt, tablesFor}
 use Rattle.walk.specs.Walk.{endingNumber}
-use Rattle.walk.specs.inner.Neighbours.{Ready}
+use Rattle.walk.specs.inner.Reading.{Ready}
 use Rattle.walk.specs.inner.Ground.{Ground}
 use Rattle.net.specs.declared.interface.Node.{Node}
 use Rattle.walk.specs.declared.question.Question.{Question}
@@ -40,7 +40,7 @@ unfoldable pub courseFrom : Rows → LentTables → Question → Packet → Cour
 courseFrom R T question packet =
     let d = question .destination .0 in
     let i = packet .node .0 in
-    walkFrom (networkOf R) (fails (question .failure)) (tablesFor R T d) d (packet .left) i (hopAt R i (packet .entry))
+    walkFrom (networkOf R) (fails (question .failure)) (tablesFor R T d) d (packet .left) i (hopAt (R .low) (R .high) i (packet .entry))
     (lostEnding (packet .arrived))
 
 -- the same past the failed link: by the backwarding entry of interface f, at least one hop being left
@@ -52,18 +52,18 @@ courseAround R T question packet f =
     goesOn (walkOn (networkOf R) failed entries d (packet .left - 1)) dropped (around failed (entries .backwarding f))
 
 -- what is known where a packet stands at a node
-pub record Standing (n : ℕ) (map forwarding backwarding : List ℕ) (question : Question) (packet : Packet) (trace : List ℕ) : Type 0 where
-  pub ground : Ground n map forwarding backwarding
+pub record Standing (n : ℕ) (low high forwarding backwarding : List ℕ) (question : Question) (packet : Packet) (trace : List ℕ) : Type 0 where
+  pub ground : Ground n low high forwarding backwarding
   pub destination : question .destination .0 < n
   pub node : packet .node .0 < n
   pub room : packet .hops + packet .left < length trace
 
 -- and where its entry leads over the failed link, by interface f
-pub record Turning (n : ℕ) (map forwarding backwarding : List ℕ) (question : Question) (packet : Packet) (f : ℕ) (trace : List ℕ) :
+pub record Turning (n : ℕ) (low high forwarding backwarding : List ℕ) (question : Question) (packet : Packet) (f : ℕ) (trace : List ℕ) :
     Type 0 where
-  pub standing : Standing n map forwarding backwarding question packet trace
+  pub standing : Standing n low high forwarding backwarding question packet trace
   pub some : 0 < packet .left
-  pub interface : f < 2 * length (standing .ground .rows .low)
+  pub interface : f < 2 * length low
 
 -- what a move answers and leaves in the trace, `hops` links having been crossed before it
 pub record Went (N : Network) (course : Course) (hops : ℕ) (before : List ℕ) (r : Outcome) (after : List ℕ) : Type 0 where
@@ -72,8 +72,8 @@ pub record Went (N : Network) (course : Course) (hops : ℕ) (before : List ℕ)
   pub trace : after ≡ overwritten before (hops + 1) (map (head N) (course .crossed))
 
 -- what is known where a walk is made
-pub record Setting (R : Rows) (T : LentTables) (map : List ℕ) (s : ℕ) (question : Question) (limit : ℕ) (trace : List ℕ) : Type 0 where
-  pub ready : Ready R T map
+pub record Setting (R : Rows) (T : LentTables) (s : ℕ) (question : Question) (limit : ℕ) (trace : List ℕ) : Type 0 where
+  pub ready : Ready R T
   pub source : s < R .nodes
   pub destination : question .destination .0 < R .nodes
   pub room : limit < length trace

@@ -17,12 +17,12 @@ unfoldable pub stepAround : Rows → LentTables → Question → ℕ → Stepped
 stepAround R T question f = told R (around (fails (question .failure)) (tablesFor R T (question .destination .0) .backwarding f))
 
 -- a packet stands at node i
-pub record Placed (n : ℕ) (map forwarding backwarding : List ℕ) (question : Question) (i : ℕ) : Type 0 where
-  pub ground : Ground n map forwarding backwarding
+pub record Placed (n : ℕ) (low high forwarding backwarding : List ℕ) (question : Question) (i : ℕ) : Type 0 where
+  pub ground : Ground n low high forwarding backwarding
   pub destination : question .destination .0 < n
   pub node : i < n
 
 -- and its entry leads over the failed link, by interface f
-pub record Rerouted (n : ℕ) (map forwarding backwarding : List ℕ) (question : Question) (i f : ℕ) : Type 0 where
-  pub placed : Placed n map forwarding backwarding question i
-  pub interface : f < 2 * length (placed .ground .rows .low)
+pub record Rerouted (n : ℕ) (low high forwarding backwarding : List ℕ) (question : Question) (i f : ℕ) : Type 0 where
+  pub placed : Placed n low high forwarding backwarding question i
+  pub interface : f < 2 * length low

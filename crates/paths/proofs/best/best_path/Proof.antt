@@ -77,29 +77,22 @@ returns-2 c =
 known-requires : tie.Need-known-requires
 known-requires c κs = search needs
 
-cast-t21 : tie.Need-cast-t21
-cast-t21 c = search needs
-
-head-of-requires : tie.Need-head-of-requires
-head-of-requires c κs = search needs
-
 number-of-requires : tie.Need-number-of-requires
 number-of-requires c κs = search needs
 
-cast-t24 : tie.Need-cast-t24
-cast-t24 c = search needs
+onward-requires : tie.Need-onward-requires
+onward-requires c κs = search needs
 
 returns-3 : tie.Need-returns-3
 returns-3 c =
-    let away = c .before .before .before .before .before .before .before in
+    let away = c .before .before .before .before .before in
     let column = away .before .before in
     let checked = column .before in
-    let tested = c .before .before .before .before .before in
+    let tested = c .before .before .before in
     let sure = sym (tested .before .known .ensures) ∙ tested .if3 .taken in
     answered _ _ _ (accepts checked)
     (rw (c .before .number-of .ensures) (shown-measures _ (formed checked) (shown column _) sure))
-    (rw (c .before .before .before .head-of .ensures)
-    (known-byte _ (known-of checked .network) (shown column _) (away .if2 .left) sure))
+    (rw (c .onward .ensures) (known-byte _ (known-of checked .network) (shown column _) (away .if2 .left) sure))
 
 returns-4 : tie.Need-returns-4
 returns-4 c =
@@ -121,9 +114,7 @@ best-path-spec =
     array-copy-out-cost
     returns-2
     known-requires
-    cast-t21
-    head-of-requires
     number-of-requires
-    cast-t24
+    onward-requires
     returns-3
     returns-4)

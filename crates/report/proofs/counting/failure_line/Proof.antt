@@ -6,7 +6,6 @@ use Rattle.net.specs.Rows.{Rows}
 use Rattle.net.specs.Failure.{failureNumber}
 use Rattle.tables.specs.Lent.{LentTables}
 use Rattle.walk.specs.Lent.{lentVerdict}
-use Rattle.walk.proofs.Verdicts.{lent-network}
 use Rattle.report.proofs.Answers.{ready, figures-refused, figures-made}
 use Rattle.report.proofs.counting.failure_line.Statement.{statement}
 use Rattle.report.proofs.counting.failure_line.Tie as tie
@@ -39,23 +38,15 @@ returns c =
     let at = c .before .before .before in
     figures-refused (R at) (T at) (start at .args .failure) (judged at) (c .no-walks .ensures) (c .before .if1 .taken)
 
-neighbours-requires : tie.Need-neighbours-requires
-neighbours-requires c κs =
-    let at = c .before .before in
-    lent-network (R at) (T at) _ (judged at) (c .if1 .left)
-
-slice-aggregate-line-of : tie.Need-slice-aggregate-line-of
-slice-aggregate-line-of c = search needs
-
 line-of-requires : tie.Need-line-of-requires
 line-of-requires c κs =
-    let at = c .before .before .before .before in
-    ready (R at) (T at) _ (judged at) (c .before .before .if1 .left) (c .before .neighbours .ensures)
+    let at = c .before .before in
+    ready (R at) (T at) _ (judged at) (c .if1 .left)
 
 returns-2 : tie.Need-returns-2
 returns-2 c =
-    let at = c .before .before .before .before .before in
-    figures-made (R at) (T at) (start at .args .failure) (judged at) (c .line-of .ensures) (c .before .before .before .if1 .left)
+    let at = c .before .before .before in
+    figures-made (R at) (T at) (start at .args .failure) (judged at) (c .line-of .ensures) (c .before .if1 .left)
 
 pub failure-line-spec : {M : Type 1} → statement M
 failure-line-spec =
@@ -65,7 +56,5 @@ failure-line-spec =
     lent-verdict-requires
     no-walks-requires
     returns
-    neighbours-requires
-    slice-aggregate-line-of
     line-of-requires
     returns-2)

@@ -21,19 +21,19 @@ record Below (n s : ℕ) (course : ℕ → Course) (trace₀ : List ℕ) (sum₀
   sums : sum ≡ lineBelow d s course sum₀
 
 abbrev Inv-loop : tie.InvT-loop
-Inv-loop map n low high weight routing forwarding backwarding failure source trace₀ sum₀ d₀ trace sum d =
+Inv-loop n low high weight routing forwarding backwarding failure source trace₀ sum₀ d₀ trace sum d =
     Below n (source .0)
     (courseAt (record { nodes = n; low = low; high = high; weight = weight })
     (record { routing = routing; forwarding = forwarding; backwarding = backwarding }) failure (source .0))
     trace₀ sum₀ trace sum d
 
 abbrev μ-loop : tie.MeasureT-loop
-μ-loop map n low high weight routing forwarding backwarding failure source trace₀ sum₀ d₀ trace sum d = n - d
+μ-loop n low high weight routing forwarding backwarding failure source trace₀ sum₀ d₀ trace sum d = n - d
 
 -- where the loop is tested
 module _ (c : tie.At-loop Inv-loop μ-loop) where
   abbrev start : tie.Start Inv-loop μ-loop
-  start = c .before .before .before .before .before .before .before .before .before
+  start = c .before .before .before .before .before .before .before .before
 
   short : (d : ℕ)
       → let a = start .args in
@@ -79,7 +79,7 @@ loop-again c =
     ⊎-elim
     (λ w. record {
       nodes = search needs;
-      same-trace = ap length (w .6) ∙ w .2 .kept .1 .1 .1 .1 .1 .1 .1 .1 .1 .1 .1 .0 ∙ inv .same-trace;
+      same-trace = ap length (w .6) ∙ w .2 .kept .1 .1 .1 .1 .1 .1 .1 .1 .1 .1 .0 ∙ inv .same-trace;
       sums = w .7 ∙ walk-counted _ _ _ (w .0 .taken) (inv .sums) (w .2 .ensures .ending) (w .2 .ensures .hops) (w .5 .ensures);
     })
     (λ w. record {

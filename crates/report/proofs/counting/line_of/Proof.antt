@@ -22,19 +22,19 @@ record Below (n : ℕ) (course : ℕ → ℕ → Course) (trace : List ℕ) (lin
   sums : line ≡ sourcesBelow s n course
 
 abbrev Inv-loop : tie.InvT-loop
-Inv-loop map n low high weight routing forwarding backwarding failure trace₀ line₀ s₀ trace line s =
+Inv-loop n low high weight routing forwarding backwarding failure trace₀ line₀ s₀ trace line s =
     Below n
     (courseAt (record { nodes = n; low = low; high = high; weight = weight })
     (record { routing = routing; forwarding = forwarding; backwarding = backwarding }) failure)
     trace line s
 
 abbrev μ-loop : tie.MeasureT-loop
-μ-loop map n low high weight routing forwarding backwarding failure trace₀ line₀ s₀ trace line s = n - s
+μ-loop n low high weight routing forwarding backwarding failure trace₀ line₀ s₀ trace line s = n - s
 
 -- where the loop is tested
 module _ (c : tie.At-loop Inv-loop μ-loop) where
   abbrev start : tie.Start Inv-loop μ-loop
-  start = c .before .before .before .before .before .before .before .before .before
+  start = c .before .before .before .before .before .before .before .before
 
   abbrev R : Rows
   R = let a = start .args in record { nodes = a .n; low = a .low .now; high = a .high .now; weight = a .weight .now }
@@ -73,7 +73,7 @@ loop-again c =
     let went = c .before .line-from in
     record {
       nodes = search needs;
-      room = went .kept .1 .1 .1 .1 .1 .1 .1 .1 .1 .1 .1 .0 ∙ at .inv .room;
+      room = went .kept .1 .1 .1 .1 .1 .1 .1 .1 .1 .1 .0 ∙ at .inv .room;
       sums = source-counted _ _ (at .s) (at .inv .sums) (went .ensures);
     }
 

@@ -5,7 +5,6 @@ use Rattle.net.specs.Refusals.{accepted}
 use Rattle.net.specs.Rows.{Rows}
 use Rattle.tables.specs.Lent.{LentTables}
 use Rattle.walk.specs.Lent.{lentVerdict}
-use Rattle.walk.proofs.Verdicts.{lent-network}
 use Rattle.report.proofs.Answers.{ready, lines-refused, lines-made}
 use Rattle.report.proofs.totals.all_lines.Statement.{statement}
 use Rattle.report.proofs.totals.all_lines.Tie as tie
@@ -35,23 +34,15 @@ returns c =
     let at = c .before .before .before in
     c .refused .ensures ∙ lines-refused (R at) (T at) (judged at) (c .before .if1 .taken)
 
-neighbours-requires : tie.Need-neighbours-requires
-neighbours-requires c κs =
-    let at = c .before .before in
-    lent-network (R at) (T at) accepted (judged at) (c .if1 .left)
-
-slice-aggregate-lines-of : tie.Need-slice-aggregate-lines-of
-slice-aggregate-lines-of c = search needs
-
 lines-of-requires : tie.Need-lines-of-requires
 lines-of-requires c κs =
-    let at = c .before .before .before .before in
-    ready (R at) (T at) accepted (judged at) (c .before .before .if1 .left) (c .before .neighbours .ensures)
+    let at = c .before .before in
+    ready (R at) (T at) accepted (judged at) (c .if1 .left)
 
 returns-2 : tie.Need-returns-2
 returns-2 c =
-    let at = c .before .before .before .before .before in
-    c .lines-of .ensures ∙ lines-made (R at) (T at) (judged at) (c .before .before .before .if1 .left)
+    let at = c .before .before .before in
+    c .lines-of .ensures ∙ lines-made (R at) (T at) (judged at) (c .before .if1 .left)
 
 pub all-lines-spec : {M : Type 1} → statement M
 all-lines-spec =
@@ -60,7 +51,5 @@ all-lines-spec =
     lent-verdict-requires
     refused-requires
     returns
-    neighbours-requires
-    slice-aggregate-lines-of
     lines-of-requires
     returns-2)

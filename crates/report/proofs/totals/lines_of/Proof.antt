@@ -19,19 +19,19 @@ record Below (line : Failure → Line) (links : ℕ) (lines : List Line) (delive
   held : HeldUpTo line k lines delivered dropped
 
 abbrev Inv-loop : tie.InvT-loop
-Inv-loop map n low high weight routing forwarding backwarding lines₀ delivered₀ dropped₀ links k₀ lines delivered dropped k =
+Inv-loop n low high weight routing forwarding backwarding lines₀ delivered₀ dropped₀ links k₀ lines delivered dropped k =
     Below
     (lineOf (record { nodes = n; low = low; high = high; weight = weight })
     (record { routing = routing; forwarding = forwarding; backwarding = backwarding }))
     links lines delivered dropped k
 
 abbrev μ-loop : tie.MeasureT-loop
-μ-loop map n low high weight routing forwarding backwarding lines₀ delivered₀ dropped₀ links k₀ lines delivered dropped k = links - k
+μ-loop n low high weight routing forwarding backwarding lines₀ delivered₀ dropped₀ links k₀ lines delivered dropped k = links - k
 
 -- where the loop is tested
 module _ (c : tie.At-loop Inv-loop μ-loop) where
   abbrev start : tie.Start Inv-loop μ-loop
-  start = c .before .before .before .before .before .before .before .before .before .before
+  start = c .before .before .before .before .before .before .before .before .before
 
   abbrev R : Rows
   R = let a = start .args in record { nodes = a .n; low = a .low .now; high = a .high .now; weight = a .weight .now }
@@ -46,7 +46,7 @@ no-walks-requires : tie.Need-no-walks-requires Inv-loop μ-loop
 no-walks-requires c κs = search needs
 
 line-of-requires : tie.Need-line-of-requires Inv-loop μ-loop
-line-of-requires c κs = c .before .before .before .before .before .before .before .before .pre
+line-of-requires c κs = c .before .before .before .before .before .before .before .pre
 
 array-set-from-lines : tie.Need-array-set-from-lines Inv-loop μ-loop
 array-set-from-lines c = search needs
@@ -91,8 +91,8 @@ loop-again c =
           (c .before .before .line-of2 .ensures);
     }
 
-add-t27 : tie.Need-add-t27 Inv-loop μ-loop
-add-t27 c =
+add-t26 : tie.Need-add-t26 Inv-loop μ-loop
+add-t26 c =
     let at = c .before in
     let fits = held-fits (R at) (T at) (network at .few-nodes) (at .loop .inv .held) in
     omega (arith, fits .0, fits .1, at .loop .inv .counted, network at .few-links)
@@ -118,5 +118,5 @@ lines-of-spec =
     add-dropped
     loop-less
     loop-again
-    add-t27
+    add-t26
     returns)

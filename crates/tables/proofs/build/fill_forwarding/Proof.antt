@@ -125,7 +125,7 @@ loop-again c =
     let own = turned .before in (
       at .inv .0,
       omega arith,
-      filled-row (at .inv .2) refl (room in-loop) (given .args .low .now) (given .args .high .now) _ (costs .forward-costs .result)
+      filled-row (at .inv .2) refl (room in-loop) _ (costs .forward-costs .result)
           (forwarding-row (rows given) (filling .network) _ (costs .forward-costs .result) (given .args .all) (given .args .kept)
           (filling .square) (given .pre .keeps) (at .h) (present in-loop) (enters entered)
           (λ d destination.

@@ -74,7 +74,7 @@ loop-again c =
     let rows = c .before .before .before .before .before .before .before .by-node in
     let costs = columnFor (rows .result) (at .i) in (
       omega arith,
-      filled-row (at .inv .1) refl (room (c .before .before .before .before .before)) (start .args .low .now) (start .args .high .now)
+      filled-row (at .inv .1) refl (room (c .before .before .before .before .before))
           (at .i) costs
           (routing-row _ (start .pre .network) (at .i) costs (start .args .all) (start .pre .square) (omega arith)
           (λ d. rows .ensures (at .i) d (omega arith)))

@@ -187,12 +187,12 @@ loop-again c =
     let network = start in-loop .pre .network in
     let end = room in-loop in
     let first =
-    filled-row (at .inv .2) refl (omega arith) (args .low .now) (args .high .now) _ (from-low .costs-of .result)
+    filled-row (at .inv .2) refl (omega arith) _ (from-low .costs-of .result)
     (own-row-from-low _ network _ (from-low .costs-of .result) (squared .square-without .result) (number in-loop)
     (without-best squared) (from-low .costs-of .ensures) (low-end .end-at .ensures))
     (first-row .fill-row .ensures) in
     let second =
-    filled-row first (next-row (2 * at .k) (args .n)) end (args .low .now) (args .high .now) _ (from-high .costs-of2 .result)
+    filled-row first (next-row (2 * at .k) (args .n)) end _ (from-high .costs-of2 .result)
     (own-row-from-high _ network _ (from-high .costs-of2 .result) (squared .square-without .result) (number in-loop)
     (without-best squared) (from-high .costs-of2 .ensures) (high-end .end-at2 .ensures))
     (second-row .fill-row2 .ensures) in

@@ -12,23 +12,17 @@ returns c = simp (eq-eqb _ _ (c .if1 .taken))
 known-requires : tie.Need-known-requires
 known-requires c κs = search needs
 
-cast-t9 : tie.Need-cast-t9
-cast-t9 c = search needs
-
-head-of-requires : tie.Need-head-of-requires
-head-of-requires c κs = search needs
-
-cast-result : tie.Need-cast-result
-cast-result c = search needs
+onward-requires : tie.Need-onward-requires
+onward-requires c κs = search needs
 
 returns-2 : tie.Need-returns-2
 unfolding entryByte
 returns-2 c =
     simp (
-      ne-eqb _ _ (c .before .before .before .before .before .if1 .left),
-      ← c .before .before .before .before .known .ensures,
-      c .before .before .before .if2 .taken,
-      ← c .before .head-of .ensures,
+      ne-eqb _ _ (c .before .before .before .if1 .left),
+      ← c .before .before .known .ensures,
+      c .before .if2 .taken,
+      ← c .onward .ensures,
     )
 
 returns-3 : tie.Need-returns-3
@@ -38,4 +32,4 @@ returns-3 c = simp (ne-eqb _ _ (c .before .before .if1 .left), ← c .before .kn
 pub entry-byte-spec : {M : Type 1} → statement M
 entry-byte-spec =
     tie.close
-    (tie.spec returns known-requires cast-t9 head-of-requires cast-result returns-2 returns-3)
+    (tie.spec returns known-requires onward-requires returns-2 returns-3)

@@ -10,16 +10,16 @@ use Rattle.tables.proofs.entry.fill_row.Statement.{statement}
 use Rattle.tables.proofs.entry.fill_row.Tie as tie
 
 abbrev Inv-loop : tie.InvT-loop
-Inv-loop row₀ n i low high costs d₀ row d =
-    (d ≤ n) × (length row ≡ n) × (entryRow n low high i 0 costs ≡ writtenTo n low high i costs row d)
+Inv-loop row₀ n i costs d₀ row d =
+    (d ≤ n) × (length row ≡ n) × (entryRow n i 0 costs ≡ writtenTo n i costs row d)
 
 abbrev μ-loop : tie.MeasureT-loop
-μ-loop row₀ n i low high costs d₀ row d = n - d
+μ-loop row₀ n i costs d₀ row d = n - d
 
 loop-holds : tie.Need-loop-holds Inv-loop μ-loop
 loop-holds c =
-    let args = c .before .before .before .args in
-    (omega arith, omega arith, row-begin (args .n) _ _ (args .i) (args .t6) (args .row .now))
+    let args = c .before .args in
+    (omega arith, omega arith, row-begin (args .n) (args .i) (args .t4) (args .row .now))
 
 mul-entry-byte : tie.Need-mul-entry-byte Inv-loop μ-loop
 mul-entry-byte c = omega arith
@@ -42,12 +42,12 @@ loop-less c = omega arith
 loop-again : tie.Need-loop-again Inv-loop μ-loop
 loop-again c =
     let at = c .before .before .before .loop in
-    let args = c .before .before .before .before .before .before .before .args in
+    let args = c .before .before .before .before .before .args in
     let long = at .inv .1 in (
       omega arith,
       length-set (at .row) (at .d) _ ∙ long,
       at .inv .2
-          ∙ row-on (args .n) _ _ (args .i) (args .t6) (at .row) (at .d) _ _ long (omega arith) (omega arith) (c .entry-byte .ensures),
+          ∙ row-on (args .n) (args .i) (args .t4) (at .row) (at .d) _ _ long (omega arith) (omega arith) (c .entry-byte .ensures),
     )
 
 same-length : tie.Need-same-length Inv-loop μ-loop
@@ -56,8 +56,8 @@ same-length c = search needs
 returns : tie.Need-returns Inv-loop μ-loop
 returns c =
     let at = c .before .loop in
-    let args = c .before .before .before .before .before .args in
-    sym (at .inv .2 ∙ row-done (args .n) _ _ (args .i) (args .t6) (at .row) (at .d) (at .inv .1) (c .loop-test .left))
+    let args = c .before .before .before .args in
+    sym (at .inv .2 ∙ row-done (args .n) (args .i) (args .t4) (at .row) (at .d) (at .inv .1) (c .loop-test .left))
 
 pub fill-row-spec : {M : Type 1} → statement M
 fill-row-spec =

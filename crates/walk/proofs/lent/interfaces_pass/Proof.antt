@@ -1,11 +1,12 @@
--- The loop's invariant: every row passed is accepted. A row is wholly in the table, and the deciding node of its interface is a node.
+-- The loop's invariant: every row passed is accepted. A row is wholly in the table, and its deciding node is the tail of its
+-- interface by the two rows of ends that were lent for it.
 use Prim.Native.Nat.{ℕ, _+_, _*_, _-_, _≤_}
 use mathlib.Core.Path.{_≡_, sym, _∙_}
 use native.Mathlib.Omega.{arith}
 use borrow.Author.Needs.{needs}
 use borrow.Author.Tests.{not-true, not-false}
 use lib.ListN.{length}
-use Rattle.net.specs.Rows.{Rows, tailOf}
+use Rattle.net.specs.Rows.{tailOf}
 use Rattle.walk.proofs.Below.{
   rowTest,
   RowsPassed,
@@ -21,23 +22,17 @@ use Rattle.walk.proofs.lent.interfaces_pass.Statement.{statement}
 use Rattle.walk.proofs.lent.interfaces_pass.Tie as tie
 
 abbrev Inv-loop : tie.InvT-loop
-Inv-loop map n low high weight first second table interfaces h₀ h =
-    RowsPassed (record { nodes = n; low = low; high = high; weight = weight }) (tailOf first second) table interfaces h
+Inv-loop n low high first second table interfaces h₀ h = RowsPassed n low high (tailOf first second) table interfaces h
 
 abbrev μ-loop : tie.MeasureT-loop
-μ-loop map n low high weight first second table interfaces h₀ h = interfaces - h
+μ-loop n low high first second table interfaces h₀ h = interfaces - h
 
 -- a turn of the loop
 abbrev Turn : Type 0
 Turn = tie.In-loop Inv-loop μ-loop
 
 abbrev start : Turn → tie.Start Inv-loop μ-loop
-start c = c .before .before .before .before .before .before .before .before .before
-
-abbrev network : Turn → Rows
-network c =
-    let a = start c .args in
-    record { nodes = a .n; low = a .low .now; high = a .high .now; weight = a .weight .now }
+start c = c .before .before .before .before .before .before .before
 
 abbrev deciding : Turn → ℕ → ℕ
 deciding c = tailOf (start c .args .first .now) (start c .args .second .now)
@@ -48,14 +43,16 @@ in-table c = row-within _ _ _ _ (c .loop-test .taken) (start c .pre .room)
 
 -- what the call says of it
 row-told : (c : tie.After-row-passes Inv-loop μ-loop) → let turn = c .before .before .before in
-    rowTest (network turn) (deciding turn) (start turn .args .table .now) (turn .before .loop .h) ≡ c .row-passes .result
+    let a = start turn .args in
+    rowTest (a .n) (a .low .now) (a .high .now) (deciding turn) (a .table .now) (turn .before .loop .h) ≡ c .row-passes .result
 row-told c =
     let turn = c .before .before .before in
-    row-as-part (network turn) (deciding turn) (start turn .args .table .now) (turn .before .loop .h) _
+    let a = start turn .args in
+    row-as-part (a .low .now) (a .high .now) (a .n) (deciding turn) (a .table .now) (turn .before .loop .h) _
     (c .before .before .tail-of .ensures) (c .row-passes .ensures)
 
 mul-interfaces : tie.Need-mul-interfaces Inv-loop μ-loop
-mul-interfaces c = omega (arith, c .before .before .before .before .before .before .before .pre .network .few-links)
+mul-interfaces c = omega (arith, c .before .before .before .before .before .pre .paired .few)
 
 loop-holds : tie.Need-loop-holds Inv-loop μ-loop
 loop-holds c = record { within = search needs; so-far = below-none _ }
@@ -79,19 +76,12 @@ part-row-passes-end : tie.Need-part-row-passes-end Inv-loop μ-loop
 part-row-passes-end c = omega (arith, in-table (c .before))
 
 row-passes-requires : tie.Need-row-passes-requires Inv-loop μ-loop
-row-passes-requires c κs =
-    let turn = c .before .before in
-    let pre = start turn .pre in
-    record {
-      network = pre .network;
-      neighbours = pre .neighbours;
-      node = rw (c .before .tail-of .ensures) (pre .nodes (turn .before .loop .h) (turn .loop-test .taken));
-    }
+row-passes-requires c κs = start (c .before .before) .pre .paired
 
 returns : tie.Need-returns Inv-loop μ-loop
 returns c =
     let turn = c .before .before .before .before in
-    sym (table-is _ _ _ _ (start turn .pre .room)
+    sym (table-is _ _ _ _ _ _ (start turn .pre .room)
     ∙ below-fails _ _ _ (turn .loop-test .taken) (row-told (c .before) ∙ not-true _ (c .if1 .taken)))
 
 add-h : tie.Need-add-h Inv-loop μ-loop
@@ -111,7 +101,7 @@ loop-again c =
 returns-2 : tie.Need-returns-2 Inv-loop μ-loop
 returns-2 c =
     let at = c .before .loop in
-    sym (table-is _ _ _ _ (c .before .before .before .before .before .before .before .before .before .pre .room)
+    sym (table-is _ _ _ _ _ _ (c .before .before .before .before .before .before .before .pre .room)
     ∙ below-all _ _ _ (at .inv .within) (c .loop-test .left) (at .inv .so-far))
 
 pub interfaces-pass-spec : {M : Type 1} → statement M

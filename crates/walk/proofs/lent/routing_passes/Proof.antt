@@ -5,7 +5,6 @@ use native.Mathlib.Omega.{arith}
 use borrow.Author.Needs.{needs}
 use borrow.Author.Tests.{not-true, not-false}
 use lib.ListN.{length}
-use Rattle.net.specs.Rows.{Rows}
 use Rattle.walk.proofs.Below.{
   rowTest,
   RowsPassed,
@@ -21,23 +20,17 @@ use Rattle.walk.proofs.lent.routing_passes.Statement.{statement}
 use Rattle.walk.proofs.lent.routing_passes.Tie as tie
 
 abbrev Inv-loop : tie.InvT-loop
-Inv-loop map n low high weight table i₀ i =
-    RowsPassed (record { nodes = n; low = low; high = high; weight = weight }) (λ (i : ℕ). i) table n i
+Inv-loop n low high table i₀ i = RowsPassed n low high (λ (i : ℕ). i) table n i
 
 abbrev μ-loop : tie.MeasureT-loop
-μ-loop map n low high weight table i₀ i = n - i
+μ-loop n low high table i₀ i = n - i
 
 -- a turn of the loop
 abbrev Turn : Type 0
 Turn = tie.In-loop Inv-loop μ-loop
 
 abbrev start : Turn → tie.Start Inv-loop μ-loop
-start c = c .before .before .before .before .before .before .before
-
-abbrev network : Turn → Rows
-network c =
-    let a = start c .args in
-    record { nodes = a .n; low = a .low .now; high = a .high .now; weight = a .weight .now }
+start c = c .before .before .before .before .before
 
 -- its row is in the table
 in-table : (c : Turn) → let a = start c .args in c .before .loop .i * a .n + a .n ≤ length (a .table .now)
@@ -45,10 +38,12 @@ in-table c = row-within _ _ _ _ (c .loop-test .taken) (start c .pre .room)
 
 -- what the call says of it
 row-told : (c : tie.After-row-passes Inv-loop μ-loop) → let turn = c .before .before in
-    rowTest (network turn) (λ (i : ℕ). i) (start turn .args .table .now) (turn .before .loop .i) ≡ c .row-passes .result
+    let a = start turn .args in
+    rowTest (a .n) (a .low .now) (a .high .now) (λ (i : ℕ). i) (a .table .now) (turn .before .loop .i) ≡ c .row-passes .result
 row-told c =
     let turn = c .before .before in
-    row-as-part (network turn) (λ (i : ℕ). i) (start turn .args .table .now) (turn .before .loop .i) _ refl (c .row-passes .ensures)
+    let a = start turn .args in
+    row-as-part (a .low .now) (a .high .now) (a .n) (λ (i : ℕ). i) (a .table .now) (turn .before .loop .i) _ refl (c .row-passes .ensures)
 
 loop-holds : tie.Need-loop-holds Inv-loop μ-loop
 loop-holds c = record { within = search needs; so-far = below-none _ }
@@ -69,15 +64,12 @@ part-row-passes-end : tie.Need-part-row-passes-end Inv-loop μ-loop
 part-row-passes-end c = omega (arith, in-table c)
 
 row-passes-requires : tie.Need-row-passes-requires Inv-loop μ-loop
-row-passes-requires c κs =
-    let turn = c .before in
-    let pre = start turn .pre in
-    record { network = pre .network; neighbours = pre .neighbours; node = pre .nodes (turn .before .loop .i) (turn .loop-test .taken) }
+row-passes-requires c κs = start (c .before) .pre .paired
 
 returns : tie.Need-returns Inv-loop μ-loop
 returns c =
     let turn = c .before .before .before in
-    sym (table-is _ _ _ _ (start turn .pre .room)
+    sym (table-is _ _ _ _ _ _ (start turn .pre .room)
     ∙ below-fails _ _ _ (turn .loop-test .taken) (row-told (c .before) ∙ not-true _ (c .if1 .taken)))
 
 add-i : tie.Need-add-i Inv-loop μ-loop
@@ -97,7 +89,7 @@ loop-again c =
 returns-2 : tie.Need-returns-2 Inv-loop μ-loop
 returns-2 c =
     let at = c .before .loop in
-    sym (table-is _ _ _ _ (c .before .before .before .before .before .before .before .pre .room)
+    sym (table-is _ _ _ _ _ _ (c .before .before .before .before .before .pre .room)
     ∙ below-all _ _ _ (at .inv .within) (c .loop-test .left) (at .inv .so-far))
 
 pub routing-passes-spec : {M : Type 1} → statement M

@@ -9,32 +9,34 @@ use Rattle.net.specs.Rows.{Rows}
 use Rattle.tables.specs.Lent.{LentTables, tablesShort}
 use Rattle.tables.proofs.Lengths.{tables-long}
 use Rattle.walk.specs.Lent.{tablesPass}
+use Rattle.walk.proofs.Hops.{paired}
 use Rattle.walk.proofs.Verdicts.{lengths-refused, entries-refused, tables-taken}
 use Rattle.walk.proofs.lent.tables_verdict.Statement.{statement}
 use Rattle.walk.proofs.lent.tables_verdict.Tie as tie
 
--- the tables are long enough, and the look-up is made
-abbrev Mapped : Type 0
-Mapped = tie.After-map
+-- the tables are long enough
+abbrev Long : Type 0
+Long = tie.Else1
 
-abbrev start : Mapped → tie.Start
-start c = c .before .before .before .before .before .before .before .before .before .before
+abbrev start : Long → tie.Start
+start c = c .before .before .before .before .before .before .before .before
 
-abbrev network : Mapped → Rows
+abbrev network : Long → Rows
 network c =
     let a = start c .args in
     record { nodes = a .n; low = a .low .now; high = a .high .now; weight = a .weight .now }
 
-abbrev lent : Mapped → LentTables
+abbrev lent : Long → LentTables
 lent c =
     let a = start c .args in
     record { routing = a .routing .now; forwarding = a .forwarding .now; backwarding = a .backwarding .now }
 
-long : (c : Mapped) → tablesShort (network c .nodes) (length (network c .low)) (lent c) ≡ false
-long c = sym (c .before .before .before .tables-short .ensures) ∙ c .before .before .if1 .left
+long : (c : Long) → tablesShort (network c .nodes) (length (network c .low)) (lent c) ≡ false
+long c = sym (c .before .tables-short .ensures) ∙ c .if1 .left
 
 -- what the call says of their entries
-entries-told : (c : tie.After-tables-pass) → tablesPass (network (c .before)) (lent (c .before)) ≡ c .tables-pass .result
+entries-told : (c : tie.After-tables-pass) → let R = network (c .before) in
+    tablesPass (R .nodes) (R .low) (R .high) (lent (c .before)) ≡ c .tables-pass .result
 entries-told c = sym (c .tables-pass .ensures)
 
 tables-short-requires : tie.Need-tables-short-requires
@@ -47,19 +49,9 @@ returns : tie.Need-returns
 returns c =
     c .unplaced .ensures ∙ lengths-refused _ _ (sym (c .before .before .tables-short .ensures) ∙ c .before .if1 .taken)
 
-neighbours-requires : tie.Need-neighbours-requires
-neighbours-requires c κs = search needs
-
-slice-aggregate-tables-pass : tie.Need-slice-aggregate-tables-pass
-slice-aggregate-tables-pass c = search needs
-
 tables-pass-requires : tie.Need-tables-pass-requires
 tables-pass-requires c κs =
-    record {
-      network = start c .pre;
-      neighbours = c .before .neighbours .ensures;
-      long = tables-long (long c);
-    }
+    record { paired = paired (network c) (start c .pre); long = tables-long (long c) }
 
 unplaced-requires-2 : tie.Need-unplaced-requires-2
 unplaced-requires-2 c κs = search needs
@@ -86,8 +78,6 @@ tables-verdict-spec =
     tables-short-requires
     unplaced-requires
     returns
-    neighbours-requires
-    slice-aggregate-tables-pass
     tables-pass-requires
     unplaced-requires-2
     returns-2

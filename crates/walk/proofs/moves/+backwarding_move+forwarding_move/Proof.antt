@@ -33,12 +33,12 @@ use Rattle.walk.proofs.moves.moved.Reads as moved
 use Rattle.walk.proofs.moves.+backwarding_move+forwarding_move.{statement}
 use Rattle.walk.proofs.moves.+backwarding_move+forwarding_move.Tie.{close}
 
--- the sixth argument of either is the packet
-abbrev μ-backwarding-move : Measures 4 backwarding-move-kinds.ps ℕ
-μ-backwarding-move κs a = 2 * a .1 .1 .1 .1 .1 .0 .left
+-- the seventh argument of either is the packet
+abbrev μ-backwarding-move : Measures 5 backwarding-move-kinds.ps ℕ
+μ-backwarding-move κs a = 2 * a .1 .1 .1 .1 .1 .1 .0 .left
 
-abbrev μ-forwarding-move : Measures 4 forwarding-move-kinds.ps ℕ
-μ-forwarding-move κs a = 2 * a .1 .1 .1 .1 .1 .0 .left + 1
+abbrev μ-forwarding-move : Measures 5 forwarding-move-kinds.ps ℕ
+μ-forwarding-move κs a = 2 * a .1 .1 .1 .1 .1 .1 .0 .left + 1
 
 -- the numbers of the endings, as the code says them
 delivered-number : 0 ≡ endingNumber delivered
@@ -55,17 +55,17 @@ exhausted-number = refl
 
 -- what a move is given at the measure t, what a call of it asks below t, and what it calls
 module _ (t : ℕ) where
-  abbrev backwarding-move-at : In 4 backwarding-move-kinds.ps
-  backwarding-move-at = and 4 backwarding-move-kinds.ps (is 4 backwarding-move-kinds.ps μ-backwarding-move t) backwarding-move.Pre
+  abbrev backwarding-move-at : In 5 backwarding-move-kinds.ps
+  backwarding-move-at = and 5 backwarding-move-kinds.ps (is 5 backwarding-move-kinds.ps μ-backwarding-move t) backwarding-move.Pre
 
-  abbrev backwarding-move-below : In 4 backwarding-move-kinds.ps
-  backwarding-move-below = and 4 backwarding-move-kinds.ps (falls 4 backwarding-move-kinds.ps _<_ μ-backwarding-move t) backwarding-move.Pre
+  abbrev backwarding-move-below : In 5 backwarding-move-kinds.ps
+  backwarding-move-below = and 5 backwarding-move-kinds.ps (falls 5 backwarding-move-kinds.ps _<_ μ-backwarding-move t) backwarding-move.Pre
 
-  abbrev forwarding-move-at : In 4 forwarding-move-kinds.ps
-  forwarding-move-at = and 4 forwarding-move-kinds.ps (is 4 forwarding-move-kinds.ps μ-forwarding-move t) forwarding-move.Pre
+  abbrev forwarding-move-at : In 5 forwarding-move-kinds.ps
+  forwarding-move-at = and 5 forwarding-move-kinds.ps (is 5 forwarding-move-kinds.ps μ-forwarding-move t) forwarding-move.Pre
 
-  abbrev forwarding-move-below : In 4 forwarding-move-kinds.ps
-  forwarding-move-below = and 4 forwarding-move-kinds.ps (falls 4 forwarding-move-kinds.ps _<_ μ-forwarding-move t) forwarding-move.Pre
+  abbrev forwarding-move-below : In 5 forwarding-move-kinds.ps
+  forwarding-move-below = and 5 forwarding-move-kinds.ps (falls 5 forwarding-move-kinds.ps _<_ μ-forwarding-move t) forwarding-move.Pre
 
   abbrev backwarding-calls : backwarding-lts.Claims
   backwarding-calls = (
@@ -102,11 +102,8 @@ module _ (t : ℕ) where
   abbrev forwarding-answered : Type 0
   forwarding-answered = forwarding-lts.After-known-told forwarding-calls forwarding-move-at forwarding-move.Post
 
-  abbrev forwarding-works : Type 0
-  forwarding-works = forwarding-lts.Else3 forwarding-calls forwarding-move-at forwarding-move.Post
-
   abbrev forwarding-start : forwarding-answered → forwarding-begun
-  forwarding-start c = c .before .before .before .before .before .before .before .before .before .before .before .before .before
+  forwarding-start c = c .before .before .before .before .before .before .before .before .before .before .before .before .before .before
 
   -- the answer's node and interface
   abbrev forwarding-node : forwarding-answered → Node
@@ -122,11 +119,8 @@ module _ (t : ℕ) where
   abbrev backwarding-answered : Type 0
   backwarding-answered = backwarding-lts.After-known-told backwarding-calls backwarding-move-at backwarding-move.Post
 
-  abbrev backwarding-works : Type 0
-  backwarding-works = backwarding-lts.Else1 backwarding-calls backwarding-move-at backwarding-move.Post
-
   abbrev backwarding-start : backwarding-answered → backwarding-begun
-  backwarding-start c = c .before .before .before .before .before .before .before .before .before .before .before
+  backwarding-start c = c .before .before .before .before .before .before .before .before .before .before .before .before
 
   -- the answer's node and interface
   abbrev backwarding-node : backwarding-answered → Node
@@ -139,14 +133,13 @@ module _ (t : ℕ) where
   module _ (c : forwarding-answered) where
     abbrev forwarding-ground : Type 0
     forwarding-ground =
-        let a = forwarding-start c .args in Ground (a .n) (a .map .now) (a .forwarding .now) (a .backwarding .now)
+        let a = forwarding-start c .args in Ground (a .n) (a .low .now) (a .high .now) (a .forwarding .now) (a .backwarding .now)
 
     forwarding-leads : (on : forwarding-ground)
         → let a = forwarding-start c .args in
         grounds.Leads on (a .packet .node .0) (a .packet .entry) (forwarding-node c) (forwarding-interface c)
     forwarding-leads on =
-        grounds.leads on _ _ (c .before .before .before .look-up .ensures (grounds.look-up-at on _ (forwarding-start c .pre .1 .node))) _ _
-        (c .before .node .given .1)
+        grounds.leads on _ _ (c .before .before .before .look-up .ensures) _ _ (c .before .node .given .1)
 
     forwarding-known : let on = forwarding-start c .pre .1 .ground in
         let a = forwarding-start c .args in
@@ -166,7 +159,7 @@ module _ (t : ℕ) where
   module _ (c : backwarding-answered) where
     abbrev backwarding-ground : Type 0
     backwarding-ground =
-        let a = backwarding-start c .args in Ground (a .n) (a .map .now) (a .forwarding .now) (a .backwarding .now)
+        let a = backwarding-start c .args in Ground (a .n) (a .low .now) (a .high .now) (a .forwarding .now) (a .backwarding .now)
 
     -- the byte that was looked up
     abbrev backwarding-byte : ℕ
@@ -175,9 +168,7 @@ module _ (t : ℕ) where
     backwarding-leads : (on : backwarding-ground)
         → grounds.Leads on (backwarding-start c .args .packet .node .0) backwarding-byte (backwarding-node c) (backwarding-interface c)
     backwarding-leads on =
-        let known = backwarding-start c .pre .1 .standing in
-        grounds.leads on _ _ (c .before .before .before .look-up .ensures (grounds.look-up-at on _ (known .node))) _ _
-        (c .before .node .given .1)
+        grounds.leads on _ _ (c .before .before .before .look-up .ensures) _ _ (c .before .node .given .1)
 
     backwarding-known : let on = backwarding-start c .pre .1 .standing .ground in
         grounds.Leads on (backwarding-start c .args .packet .node .0) backwarding-byte (backwarding-node c) (backwarding-interface c)
@@ -208,24 +199,24 @@ module _ (t : ℕ) where
 
   backwarding-move-mul-back : backwarding-lts.Need-mul-back backwarding-calls backwarding-move-at backwarding-move.Post
   backwarding-move-mul-back c =
-      let start = c .before .before .before .before .before in
+      let start = c .before .before .before .before .before .before in
       grounds.row-fits _ _ _ (back-row start) (back-table start)
 
   backwarding-move-add-back : backwarding-lts.Need-add-back backwarding-calls backwarding-move-at backwarding-move.Post
   backwarding-move-add-back c =
-      let start = c .before .before .before .before .before .before in
+      let start = c .before .before .before .before .before .before .before in
       grounds.place-fits _ _ _ _ (back-row start) (start .pre .1 .standing .destination) (back-table start)
 
   backwarding-move-shared-slice-read-back :
       backwarding-lts.Need-shared-slice-read-back backwarding-calls backwarding-move-at backwarding-move.Post
   backwarding-move-shared-slice-read-back c =
-      let start = c .before .before .before .before .before .before .before in
+      let start = c .before .before .before .before .before .before .before .before in
       grounds.place-within _ _ _ _ (back-row start) (start .pre .1 .standing .destination)
 
   backwarding-move-look-up-requires : backwarding-lts.Need-look-up-requires backwarding-calls backwarding-move-at backwarding-move.Post
   backwarding-move-look-up-requires c κs =
-      let known = c .before .before .before .before .before .before .before .pre .1 .standing in
-      grounds.look-up-at (known .ground) _ (known .node)
+      let known = c .before .before .before .before .before .before .before .before .pre .1 .standing in
+      grounds.look-up-at (known .ground)
 
   backwarding-move-enum-known-node : backwarding-lts.Need-enum-known-node backwarding-calls backwarding-move-at backwarding-move.Post
   backwarding-move-enum-known-node c = search needs
@@ -235,8 +226,8 @@ module _ (t : ℕ) where
 
   backwarding-move-returns : backwarding-lts.Need-returns backwarding-calls backwarding-move-at backwarding-move.Post
   backwarding-move-returns c on leaves =
-      let start = c .before .before .before .before .before .before .before .before .before .before in
-      let told = c .before .before .look-up .ensures (grounds.look-up-at on _ (start .pre .1 .standing .node)) in
+      let start = c .before .before .before .before .before .before .before .before .before .before .before in
+      let told = c .before .before .look-up .ensures in
       went-ends _ _ _ dropped _ dropped-number
       (turned-lost on _ _ (start .args .f .0) leaves (grounds.absent on _ _ told (c .enum-told .given .1)))
 
@@ -317,7 +308,7 @@ module _ (t : ℕ) where
   backwarding-move-same-length : backwarding-lts.Need-same-length backwarding-calls backwarding-move-at backwarding-move.Post
   backwarding-move-same-length c =
       let at = c .before .before .before .before .before .before .before .before .before .before .before .before in
-      c .before .before .forwarding-move .kept .1 .1 .1 .1 .1 .1 .0
+      c .before .before .forwarding-move .kept .1 .1 .1 .1 .1 .1 .1 .0
       ∙ length-set (backwarding-start at .args .trace .now) (backwarding-start at .args .packet .hops + 1) (backwarding-node at .0)
 
   backwarding-move-returns-3 : backwarding-lts.Need-returns-3 backwarding-calls backwarding-move-at backwarding-move.Post
@@ -343,8 +334,8 @@ module _ (t : ℕ) where
 
   forwarding-move-look-up-requires : forwarding-lts.Need-look-up-requires forwarding-calls forwarding-move-at forwarding-move.Post
   forwarding-move-look-up-requires c κs =
-      let known = c .before .before .before .before .before .before .before .before .before .pre .1 in
-      grounds.look-up-at (known .ground) _ (known .node)
+      let known = c .before .before .before .before .before .before .before .before .before .before .pre .1 in
+      grounds.look-up-at (known .ground)
 
   forwarding-move-enum-known-node : forwarding-lts.Need-enum-known-node forwarding-calls forwarding-move-at forwarding-move.Post
   forwarding-move-enum-known-node c = search needs
@@ -357,9 +348,9 @@ module _ (t : ℕ) where
 
   forwarding-move-returns-3 : forwarding-lts.Need-returns-3 forwarding-calls forwarding-move-at forwarding-move.Post
   forwarding-move-returns-3 c on =
-      let start = c .before .before .before .before .before .before .before .before .before .before .before .before .before in
+      let start = c .before .before .before .before .before .before .before .before .before .before .before .before .before .before in
       let asked = c .before .before .before .before in
-      let told = c .before .before .before .look-up .ensures (grounds.look-up-at on _ (start .pre .1 .node)) in
+      let told = c .before .before .before .look-up .ensures in
       went-ends _ _ _ (lostEnding (start .args .packet .arrived)) _ (c .lost-ending .ensures)
       (course-lost on _ _ (asked .before .before .if1 .left) (asked .if2 .left)
       (grounds.absent on _ _ told (c .before .enum-told .given .1)))
@@ -377,7 +368,7 @@ module _ (t : ℕ) where
       )
 
   forwarding-move-same-length : forwarding-lts.Need-same-length forwarding-calls forwarding-move-at forwarding-move.Post
-  forwarding-move-same-length c = c .before .before .backwarding-move .kept .1 .1 .1 .1 .1 .1 .1 .0
+  forwarding-move-same-length c = c .before .before .backwarding-move .kept .1 .1 .1 .1 .1 .1 .1 .1 .0
 
   forwarding-move-returns-4 : forwarding-lts.Need-returns-4 forwarding-calls forwarding-move-at forwarding-move.Post
   forwarding-move-returns-4 c on =
@@ -457,7 +448,7 @@ module _ (t : ℕ) where
   forwarding-move-same-length-2 : forwarding-lts.Need-same-length-2 forwarding-calls forwarding-move-at forwarding-move.Post
   forwarding-move-same-length-2 c =
       let at = c .before .before .before .before .before .before .before .before .before .before .before .before in
-      c .before .before .forwarding-move .kept .1 .1 .1 .1 .1 .1 .0
+      c .before .before .forwarding-move .kept .1 .1 .1 .1 .1 .1 .1 .0
       ∙ length-set (forwarding-start at .args .trace .now) (forwarding-start at .args .packet .hops + 1) (forwarding-node at .0)
 
   forwarding-move-returns-5 : forwarding-lts.Need-returns-5 forwarding-calls forwarding-move-at forwarding-move.Post

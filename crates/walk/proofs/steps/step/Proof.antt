@@ -1,8 +1,7 @@
 -- One verdict and one branch. Where nothing is refused, the step is made at the start node with its routing entry, or at the head of the
 -- interface entered with its forwarding entry.
 use Prim.Native.Nat.{ℕ, _+_, _*_, _^_, _<_, _≤_}
-use mathlib.Core.Path.{_≡_, refl, sym, ap, _∙_}
-use mathlib.Core.List.{List}
+use mathlib.Core.Path.{_≡_, sym, ap, _∙_}
 use native.Mathlib.Omega.{arith}
 use borrow.Author.Needs.{needs}
 use lib.ListN.{length}
@@ -14,13 +13,12 @@ use Rattle.net.proofs.Rows.{head-of}
 use Rattle.tables.specs.Lent.{LentTables, LongEnough}
 use Rattle.walk.specs.Lent.{lentVerdict}
 use Rattle.walk.specs.Step.{stepNumber}
-use Rattle.walk.specs.inner.Neighbours.{Neighbours}
 use Rattle.walk.specs.inner.Ground.{Ground}
 use Rattle.walk.specs.declared.question.Question.{Question}
 use Rattle.walk.proofs.Asking.{asked-destination, asked-start, asked-arrival}
 use Rattle.walk.proofs.Below.{row-within}
 use Rattle.walk.proofs.Grounds.{row-fits, place-fits, place-within}
-use Rattle.walk.proofs.Lookup.{head-below}
+use Rattle.walk.proofs.Hops.{head-below}
 use Rattle.walk.proofs.Stepping.{start-steps, arrival-steps}
 use Rattle.walk.proofs.Verdicts.{lent-network, lent-long, question-taken, step-refused, step-taken}
 use Rattle.walk.proofs.steps.step.Statement.{statement}
@@ -60,16 +58,8 @@ module _ (c : tie.Else1) where
   destination : question at .destination .0 < R at .nodes
   destination = asked-destination _ _ _ (question at) taken
 
-  abbrev ground : (map : List ℕ) → Neighbours (R at) map → Ground (R at .nodes) map (T at .forwarding) (T at .backwarding)
-  ground map neighbours =
-      record {
-        rows = R at;
-        tables = T at;
-        ready = record { network = network; neighbours = neighbours; long = long };
-        nodes = refl;
-        forwards = refl;
-        backwards = refl;
-      }
+  abbrev ground : Ground (R at .nodes) (R at .low) (R at .high) (T at .forwarding) (T at .backwarding)
+  ground = record { weight = R at .weight; routing = T at .routing; ready = record { network = network; long = long } }
 
   routing-table : length (T at .routing) < 2 ^ 64
   routing-table = omega arith
@@ -78,29 +68,29 @@ module _ (c : tie.Else1) where
   forwarding-table = omega arith
 
 -- asked at a start node
-module _ (c : tie.After-map) where
+module _ (c : tie.After-known-told) where
   abbrev begun : tie.Else1
-  begun = c .before .before .before .before .before
+  begun = c .before .before .before
 
   abbrev node : ℕ
-  node = c .before .before .asked .given .0 .0 .0
+  node = c .before .asked .given .0 .0 .0
 
   node-below : node < R (at begun) .nodes
-  node-below = asked-start _ _ _ (question (at begun)) (taken begun) _ (c .before .before .asked .given .1)
+  node-below = asked-start _ _ _ (question (at begun)) (taken begun) _ (c .before .asked .given .1)
 
   routing-row : node * R (at begun) .nodes + R (at begun) .nodes ≤ length (T (at begun) .routing)
   routing-row = row-within _ _ node _ node-below (long begun .for-routing)
 
 -- asked on arrival
-module _ (c : tie.After-map2) where
+module _ (c : tie.After-known-told2) where
   abbrev entered : tie.Else1
-  entered = c .before .before .before .before .before
+  entered = c .before .before .before
 
   abbrev interface : ℕ
-  interface = c .before .before .asked2 .given .0 .0 .0
+  interface = c .before .asked2 .given .0 .0 .0
 
   interface-below : interface < 2 * length (R (at entered) .low)
-  interface-below = asked-arrival _ _ _ (question (at entered)) (taken entered) _ (c .before .before .asked2 .given .1)
+  interface-below = asked-arrival _ _ _ (question (at entered)) (taken entered) _ (c .before .asked2 .given .1)
 
   forwarding-row : interface * R (at entered) .nodes + R (at entered) .nodes ≤ length (T (at entered) .forwarding)
   forwarding-row = row-within _ _ interface _ interface-below (long entered .for-forwarding)
@@ -116,14 +106,8 @@ returns c =
     let at = c .before .before in
     step-refused (R at) (T at) (start at .args .asked) (question at) (judged at) (c .if1 .taken)
 
-neighbours-requires : tie.Need-neighbours-requires
-neighbours-requires c κs = network c
-
 enum-known-asked : tie.Need-enum-known-asked
 enum-known-asked c = search needs
-
-slice-aggregate-step-at : tie.Need-slice-aggregate-step-at
-slice-aggregate-step-at c = search needs
 
 mul-step-at : tie.Need-mul-step-at
 mul-step-at c = row-fits _ _ _ (routing-row (c .before)) (routing-table (begun (c .before)))
@@ -139,16 +123,13 @@ step-at-requires : tie.Need-step-at-requires
 step-at-requires c κs =
     let at = c .before .before in
     record {
-      ground = ground (begun at) _ (at .before .before .before .before .neighbours .ensures);
+      ground = ground (begun at);
       destination = destination (begun at);
       node = node-below at;
     }
 
 enum-known-asked-2 : tie.Need-enum-known-asked-2
 enum-known-asked-2 c = search needs
-
-slice-aggregate-step-at-2 : tie.Need-slice-aggregate-step-at-2
-slice-aggregate-step-at-2 c = search needs
 
 head-of-requires : tie.Need-head-of-requires
 head-of-requires c κs = search needs
@@ -172,28 +153,28 @@ head-node c = c .head-of .ensures ∙ sym (head-of (R (at (entered (c .before)))
 
 step-at-requires-2 : tie.Need-step-at-requires-2
 step-at-requires-2 c κs =
-    let map = c .before .before .before in
-    let at = entered map in
+    let told = c .before .before .before in
+    let at = entered told in
     record {
-      ground = ground at _ (map .before .before .before .before .neighbours .ensures);
+      ground = ground at;
       destination = destination at;
-      node = rw (head-node (c .before .before)) (head-below _ (network at) (interface map) (interface-below map));
+      node = rw (head-node (c .before .before)) (head-below _ (network at) (interface told) (interface-below told));
     }
 
 returns-2 : tie.Need-returns-2
 returns-2 c =
-    let map = c .before .before .before in
-    let fine = begun map in
-    c .step-at .ensures (ground fine _ (map .before .before .before .before .neighbours .ensures))
-    ∙ start-steps (R (at fine)) (T (at fine)) _ (question (at fine)) _ (map .before .before .asked .given .1)
+    let told = c .before .before .before in
+    let fine = begun told in
+    c .step-at .ensures (ground fine)
+    ∙ start-steps (R (at fine)) (T (at fine)) _ (question (at fine)) _ (told .before .asked .given .1)
     ∙ step-taken (R (at fine)) (T (at fine)) _ (question (at fine)) (judged (at fine)) (fine .if1 .left)
 
 returns-3 : tie.Need-returns-3
 returns-3 c =
-    let map = c .before .before .before .before in
-    let fine = entered map in
-    c .step-at2 .ensures (ground fine _ (map .before .before .before .before .neighbours .ensures))
-    ∙ arrival-steps (R (at fine)) (T (at fine)) _ (question (at fine)) _ _ (map .before .before .asked2 .given .1)
+    let told = c .before .before .before .before in
+    let fine = entered told in
+    c .step-at2 .ensures (ground fine)
+    ∙ arrival-steps (R (at fine)) (T (at fine)) _ (question (at fine)) _ _ (told .before .asked2 .given .1)
     (head-node (c .before .before .before))
     ∙ step-taken (R (at fine)) (T (at fine)) _ (question (at fine)) (judged (at fine)) (fine .if1 .left)
 
@@ -204,15 +185,12 @@ step-spec =
     step-number-requires
     lent-verdict-requires
     returns
-    neighbours-requires
     enum-known-asked
-    slice-aggregate-step-at
     mul-step-at
     add-step-at
     shared-slice-read-step-at
     step-at-requires
     enum-known-asked-2
-    slice-aggregate-step-at-2
     head-of-requires
     mul-step-at-2
     add-step-at-2

@@ -22,7 +22,7 @@ table c = omega arith
 -- where the look-up answered
 module _ (c : tie.After-known-told) where
   abbrev start : tie.Start
-  start = c .before .before .before .before .before .before .before .before .before .before
+  start = c .before .before .before .before .before .before .before .before .before .before .before
 
   abbrev next : Node
   next = c .before .next .given .0 .0
@@ -33,29 +33,28 @@ module _ (c : tie.After-known-told) where
   abbrev byte : ℕ
   byte = getD (start .args .backwarding .now) (start .args .f .0 * start .args .n + start .args .question .destination .0) 0
 
-  module _ (on : Ground (start .args .n) (start .args .map .now) (start .args .forwarding .now) (start .args .backwarding .now)) where
+  module _ (on : let a = start .args in Ground (a .n) (a .low .now) (a .high .now) (a .forwarding .now) (a .backwarding .now)) where
     leads : grounds.Leads on (start .args .node .0) byte next interface
     leads =
-        grounds.leads on _ _ (c .before .before .before .look-up .ensures (grounds.look-up-at on _ (start .pre .placed .node))) _ _
-        (c .before .next .given .1)
+        grounds.leads on _ _ (c .before .before .before .look-up .ensures) _ _ (c .before .next .given .1)
 
 mul-back : tie.Need-mul-back
-mul-back c = grounds.row-fits _ _ _ (row (c .before .before .before .before)) (table (c .before .before .before .before))
+mul-back c = grounds.row-fits _ _ _ (row (c .before .before .before .before .before)) (table (c .before .before .before .before .before))
 
 add-back : tie.Need-add-back
 add-back c =
-    let start = c .before .before .before .before .before in
+    let start = c .before .before .before .before .before .before in
     grounds.place-fits _ _ _ _ (row start) (start .pre .placed .destination) (table start)
 
 shared-slice-read-back : tie.Need-shared-slice-read-back
 shared-slice-read-back c =
-    let start = c .before .before .before .before .before .before in
+    let start = c .before .before .before .before .before .before .before in
     grounds.place-within _ _ _ _ (row start) (start .pre .placed .destination)
 
 look-up-requires : tie.Need-look-up-requires
 look-up-requires c κs =
-    let start = c .before .before .before .before .before .before in
-    grounds.look-up-at (start .pre .placed .ground) _ (start .pre .placed .node)
+    let start = c .before .before .before .before .before .before .before in
+    grounds.look-up-at (start .pre .placed .ground)
 
 enum-known-next : tie.Need-enum-known-next
 enum-known-next c = search needs
@@ -65,8 +64,8 @@ enum-told c = search needs
 
 returns : tie.Need-returns
 returns c on leaves =
-    let start = c .before .before .before .before .before .before .before .before .before in
-    let told = c .before .before .look-up .ensures (grounds.look-up-at on _ (start .pre .placed .node)) in
+    let start = c .before .before .before .before .before .before .before .before .before .before in
+    let told = c .before .before .look-up .ensures in
     around-absent on (start .args .question) (start .args .node .0) (start .args .f .0) leaves
     (grounds.absent on _ _ told (c .enum-told .given .1))
 

@@ -4,7 +4,7 @@ use mathlib.Core.Logic.{_≢_}
 use borrow.Author.Needs.{needs}
 use Rattle.net.specs.declared.interface.Interface.{Interface}
 use Rattle.net.specs.declared.interface.Node.{Node}
-use Rattle.walk.specs.inner.Ground.{Ground}
+use Rattle.walk.specs.inner.Ground.{Ground, rowsOn, tablesOn}
 use Rattle.walk.proofs.Grounds as grounds
 use Rattle.walk.proofs.Stepping.{step-delivered, step-lost, step-turns, step-crosses}
 use Rattle.walk.proofs.steps.step_at.Statement.{statement}
@@ -13,7 +13,7 @@ use Rattle.walk.proofs.steps.step_at.Tie as tie
 -- where the look-up answered
 module _ (c : tie.After-known-told) where
   abbrev start : tie.Start
-  start = c .before .before .before .before .before .before .before .before .before .before
+  start = c .before .before .before .before .before .before .before .before .before .before .before
 
   abbrev next : Node
   next = c .before .next .given .0 .0
@@ -24,21 +24,20 @@ module _ (c : tie.After-known-told) where
   away : start .args .node .0 ≢ start .args .question .destination .0
   away = c .before .before .before .before .if1 .left
 
-  module _ (on : Ground (start .args .n) (start .args .map .now) (start .args .forwarding .now) (start .args .backwarding .now)) where
+  module _ (on : let a = start .args in Ground (a .n) (a .low .now) (a .high .now) (a .forwarding .now) (a .backwarding .now)) where
     leads : grounds.Leads on (start .args .node .0) (start .args .entry) next interface
     leads =
-        grounds.leads on _ _ (c .before .before .before .look-up .ensures (grounds.look-up-at on _ (start .pre .node))) _ _
-        (c .before .next .given .1)
+        grounds.leads on _ _ (c .before .before .before .look-up .ensures) _ _ (c .before .next .given .1)
 
 returns : tie.Need-returns
 returns c on =
-    let start = c .before .before .before .before .before .before in
+    let start = c .before .before .before .before .before .before .before in
     step-delivered on (start .args .question) (start .args .node .0) _ (c .if1 .taken)
 
 look-up-requires : tie.Need-look-up-requires
 look-up-requires c κs =
-    let start = c .before .before .before .before .before .before in
-    grounds.look-up-at (start .pre .ground) _ (start .pre .node)
+    let start = c .before .before .before .before .before .before .before in
+    grounds.look-up-at (start .pre .ground)
 
 enum-known-next : tie.Need-enum-known-next
 enum-known-next c = search needs
@@ -48,9 +47,9 @@ enum-told c = search needs
 
 returns-2 : tie.Need-returns-2
 returns-2 c on =
-    let start = c .before .before .before .before .before .before .before .before .before in
-    step-lost (on .rows) (on .tables) (start .args .question) (start .args .node .0) (c .before .before .before .if1 .left)
-    (grounds.absent on _ _ (c .before .before .look-up .ensures (grounds.look-up-at on _ (start .pre .node))) (c .enum-told .given .1))
+    let start = c .before .before .before .before .before .before .before .before .before .before in
+    step-lost (rowsOn on) (tablesOn on) (start .args .question) (start .args .node .0) (c .before .before .before .if1 .left)
+    (grounds.absent on _ _ (c .before .before .look-up .ensures) (c .enum-told .given .1))
 
 blocked-requires : tie.Need-blocked-requires
 blocked-requires c κs = search needs

@@ -62,18 +62,12 @@ returns c =
     let refusal = c .if1 .taken in
     (walk-refused (R at) (T at) _ (question at) _ _ (judged at) refusal, trace-kept (R at) (T at) _ (question at) _ _ (judged at) refusal)
 
-neighbours-requires : tie.Need-neighbours-requires
-neighbours-requires c κs = network (c .before .before) (c .if1 .left)
-
-slice-aggregate-walk-from : tie.Need-slice-aggregate-walk-from
-slice-aggregate-walk-from c = search needs
-
 walk-from-requires : tie.Need-walk-from-requires
 walk-from-requires c κs =
-    let at = c .before .before .before .before .before in
-    let fine = c .before .before .before .if1 .left in
+    let at = c .before .before .before in
+    let fine = c .before .if1 .left in
     record {
-      ready = record { network = network at fine; neighbours = c .before .before .neighbours .ensures; long = long at fine };
+      ready = record { network = network at fine; long = long at fine };
       source = walk-source _ _ _ (question at) (taken at fine);
       destination = walk-destination _ _ _ (question at) (taken at fine);
       room = room at fine;
@@ -84,8 +78,8 @@ same-length-2 c = search needs
 
 returns-2 : tie.Need-returns-2
 returns-2 c =
-    let at = c .before .before .before .before .before .before .before .before in
-    let fine = c .before .before .before .before .before .before .if1 .left in
+    let at = c .before .before .before .before .before .before in
+    let fine = c .before .before .before .before .if1 .left in
     let went = c .before .before .walk-from .ensures in
     (walk-made (R at) (T at) _ (question at) _ _ (judged at) fine went, trace-made (R at) (T at) _ (question at) _ _ (judged at) fine went)
 
@@ -96,8 +90,6 @@ walk-spec =
     walk-verdict-requires
     same-length
     returns
-    neighbours-requires
-    slice-aggregate-walk-from
     walk-from-requires
     same-length-2
     returns-2)
