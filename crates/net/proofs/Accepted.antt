@@ -1,4 +1,5 @@
--- The check accepts exactly the networks of document 01, and such a network is one that the mathematics speaks of: well-formed.
+-- The check accepts exactly the networks of document 01, with parallel links as document 02 allows them (L5), and such a network is one
+-- that the mathematics speaks of: well-formed.
 use mathlib.Core.Path.{_≡_}
 use mathlib.Core.Logic.{inl, inr}
 use native.Mathlib.Omega.{arith}

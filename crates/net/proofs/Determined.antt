@@ -7,7 +7,8 @@ use Rattle.net.specs.declared.interface.Node.{Node}
 use Rattle.net.specs.declared.interface.Link.{Link}
 use Rattle.net.specs.declared.interface.Interface.{Interface}
 use Rattle.net.proofs.check.check_network.Reads as check-network-contract
-use Rattle.net.proofs.check.comes_after.Reads as comes-after-contract
+use Rattle.net.proofs.check.descends.Reads as descends-contract
+use Rattle.net.proofs.check.lighter_twin.Reads as lighter-twin-contract
 use Rattle.net.proofs.check.end_at.Reads as end-at-contract
 use Rattle.net.proofs.check.bad_weight.Reads as bad-weight-contract
 use Rattle.net.proofs.check.bad_node_count.Reads as bad-node-count-contract
@@ -43,8 +44,11 @@ agree p q = p ∙ sym q
 pub check-network : Determined check-network-contract.Learnt
 check-network a inputs x y e f p q = agree p q
 
-pub comes-after : Determined comes-after-contract.Learnt
-comes-after a inputs x y e f p q = agree p q
+pub descends : Determined descends-contract.Learnt
+descends a inputs x y e f p q = agree p q
+
+pub lighter-twin : Determined lighter-twin-contract.Learnt
+lighter-twin a inputs x y e f p q = agree p q
 
 pub end-at : Determined end-at-contract.Learnt
 end-at a inputs x y e f p q = agree p q

@@ -1,51 +1,51 @@
--- The laws of the check: what each test means, what a link's fault is after the tests before it, and how the loop over the links
--- goes on.
+-- The laws of the check: what a link's fault is after the tests before it, and how the loop over the links goes on.
 use Prim.Native.Nat.{ℕ, suc, _+_, _-_, _≤_, _<_}
 use mathlib.Core.Bool.{true, false}
 use mathlib.Core.Path.{_≡_}
-use mathlib.Core.Logic.{_≢_}
+use mathlib.Core.Logic.{inl, _≢_}
 use native.Mathlib.Nat.{sub-zero}
 use native.Mathlib.Omega.{arith}
 use borrow.Author.Tests.{ne-eqb, eq-eqb, lt-ltb, le-ltb}
 use lib.ListN.{length, getD}
 use Rattle.net.specs.Refusals.{accepted, nodeCount, linkCount, linkEnds, linkWeight, linkOrder, rowLengths}
-use Rattle.net.specs.Limits.{mostNodes, mostLinks}
+use Rattle.net.specs.Limits.{mostLinks}
 use Rattle.net.specs.Rows.{Rows}
-use Rattle.net.specs.Check.{badEnds, outOfOrder, badWeight, linkFault, linksFrom, verdict, rowsDiffer, badNodeCount, checkNetwork}
+use Rattle.net.specs.Check.{badEnds, descends, badWeight, lighterTwin, spanBefore, linkFault, linksFrom, verdict}
+use Rattle.net.specs.Check.{rowsDiffer, badNodeCount, checkNetwork}
+use Rattle.net.specs.declared.check.Span.{Span}
+use Rattle.net.proofs.Tests.{holds, count-tells}
 
-module _ (R : Rows) (k : ℕ) where
-  open Rows R using (nodes as n, low, high, weight)
-
-  pub fault-ends : badEnds n (getD low k 0) (getD high k 0) ≡ true → linkFault R k ≡ linkEnds
+module _ (n : ℕ) (before : Span) (low high weight : ℕ) where
+  pub fault-ends : badEnds n low high ≡ true → linkFault n before low high weight ≡ linkEnds
   unfolding linkFault
   fault-ends e = simp e
 
-  pub fault-order : badEnds n (getD low k 0) (getD high k 0) ≡ false → outOfOrder low high k ≡ true → linkFault R k ≡ linkOrder
-  unfolding linkFault
-  fault-order e o = simp (e, o)
+  module _ (ends : badEnds n low high ≡ false) where
+    pub fault-order : descends before low high ≡ true → linkFault n before low high weight ≡ linkOrder
+    unfolding linkFault
+    fault-order o = simp (ends, o)
 
-  pub fault-weight : badEnds n (getD low k 0) (getD high k 0) ≡ false → outOfOrder low high k ≡ false
-      → badWeight (getD weight k 0) ≡ true → linkFault R k ≡ linkWeight
-  unfolding linkFault
-  fault-weight e o w = simp (e, o, w)
+    module _ (order : descends before low high ≡ false) where
+      pub fault-weight : badWeight weight ≡ true → linkFault n before low high weight ≡ linkWeight
+      unfolding linkFault
+      fault-weight w = simp (ends, order, w)
 
-  pub fault-none : badEnds n (getD low k 0) (getD high k 0) ≡ false → outOfOrder low high k ≡ false
-      → badWeight (getD weight k 0) ≡ false → linkFault R k ≡ accepted
-  unfolding linkFault
-  fault-none e o w = simp (e, o, w)
+      module _ (weighs : badWeight weight ≡ false) where
+        pub fault-twin : lighterTwin before low high weight ≡ true → linkFault n before low high weight ≡ linkOrder
+        unfolding linkFault
+        fault-twin t = simp (ends, order, weighs, t)
+
+        pub fault-none : lighterTwin before low high weight ≡ false → linkFault n before low high weight ≡ accepted
+        unfolding linkFault
+        fault-none t = simp (ends, order, weighs, t)
+
+-- the fault of link k after the one before it
+abbrev pub faultAt : Rows → ℕ → ℕ
+faultAt R k = linkFault (R .nodes) (spanBefore R k) (getD (R .low) k 0) (getD (R .high) k 0) (getD (R .weight) k 0)
 
 -- the node count
 pub no-nodes : (n : ℕ) → n ≡ 0 → badNodeCount n ≡ true
-unfolding badNodeCount
-no-nodes n e = simp (eq-eqb n 0 e)
-
-pub too-many-nodes : (n : ℕ) → mostNodes < n → badNodeCount n ≡ true
-unfolding badNodeCount
-too-many-nodes n h = simp (ne-eqb n 0 (λ e. omega arith), lt-ltb _ _ h)
-
-pub few-nodes : (n : ℕ) → n ≢ 0 → n ≤ mostNodes → badNodeCount n ≡ false
-unfolding badNodeCount
-few-nodes n some h = simp (ne-eqb n 0 some, le-ltb _ _ h)
+no-nodes n e = holds (count-tells n) (inl e)
 
 -- the links from k on, of m in all: done, left at the first fault, or gone on
 module _ (m : ℕ) (R : Rows) where
@@ -61,12 +61,12 @@ module _ (m : ℕ) (R : Rows) where
   one-more : (k : ℕ) → suc k ≡ k + 1
   one-more k = omega arith
 
-  pub links-on : (k : ℕ) → k < m → linkFault R k ≡ accepted
+  pub links-on : (k : ℕ) → k < m → faultAt R k ≡ accepted
       → linksFrom (m - k) R k ≡ linksFrom (m - (k + 1)) R (k + 1)
   unfolding linksFrom
   links-on k h e = simp (less-one k h, e, one-more k)
 
-  pub links-left : (k fault : ℕ) → k < m → linkFault R k ≡ fault → fault ≢ 0
+  pub links-left : (k fault : ℕ) → k < m → faultAt R k ≡ fault → fault ≢ 0
       → linksFrom (m - k) R k ≡ record { number = fault; place = k }
   unfolding linksFrom
   links-left k fault h e f = simp (less-one k h, e, ne-eqb fault 0 f)

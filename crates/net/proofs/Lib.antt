@@ -1,5 +1,6 @@
 pub mod Rows
 pub mod LinkSets
+pub mod Tests
 pub mod Faults
 pub mod Stages
 pub mod Accepted

@@ -28,7 +28,7 @@ linkEnds = 5
 abbrev pub linkWeight : ℕ
 linkWeight = 6
 
--- "link not after the one before it (an equal pair included)"
+-- "Refusal 7 is then given only for a descending pair, or an equal pair with a smaller weight" (document 02, L5)
 abbrev pub linkOrder : ℕ
 linkOrder = 7
 

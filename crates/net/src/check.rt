@@ -1,9 +1,7 @@
-// The check of a network in memory: 9, 3, 4, then link by link 5, 7, 6.
+// The check of a network in memory: 9, 3, 4, then link by link 5, 7, 6, 7.
 ghost use mathlib.Core.Path.{_≡_};
-ghost use Prim.Native.Nat.{_<_};
-ghost use lib.ListN.{length, getD};
-ghost use Rattle.net.specs.Check.{comesAfter, badEnds, badWeight, badNodeCount, linkFault, verdict, checkNetwork};
-ghost use Rattle.net.specs.Check.{outOfOrder};
+ghost use lib.ListN.{getD};
+ghost use Rattle.net.specs.Check.{badEnds, descends, badWeight, lighterTwin, badNodeCount, linkFault, verdict, checkNetwork};
 use crate::limit;
 use crate::refusal;
 
@@ -23,17 +21,38 @@ pub fn unplaced(number: u8) -> Verdict
     }
 }
 
-// Whether a link comes after the one before it, low end first and then high end.
-pub fn comes_after(low_before: usize, high_before: usize, low: usize, high: usize) -> bool
-    ensures { λ r. ⌜ r ≡ comesAfter «low_before» «high_before» low high ⌝ }
+// What a link joins and weighs. As the link before, it is what the next one is compared with; before the first link stands 0, 0, 0, which
+// nothing comes before.
+pub struct Span {
+    pub low: usize,
+    pub high: usize,
+    pub weight: u32,
+}
+
+// Whether a link's ends come before those of the link before it, low end first and then high end.
+pub fn descends(before: Span, low: usize, high: usize) -> bool
+    ensures { λ r. ⌜ r ≡ descends before low high ⌝ }
 {
-    if low_before < low {
+    if low < before.low {
         return true;
     }
-    if low_before == low {
-        return high_before < high;
+    if low == before.low {
+        return high < before.high;
     }
     false
+}
+
+// Whether a link joins the same pair as the link before it and weighs less.
+pub fn lighter_twin(before: Span, low: usize, high: usize, weight: u32) -> bool
+    ensures { λ r. ⌜ r ≡ lighterTwin before low high weight ⌝ }
+{
+    if low != before.low {
+        return false;
+    }
+    if high != before.high {
+        return false;
+    }
+    weight < before.weight
 }
 
 // What a row of ends says of link k; 0 past its end.
@@ -76,37 +95,24 @@ pub fn bad_weight(weight: u32) -> bool
     limit::WEIGHT < weight
 }
 
-fn out_of_order(low: &[u8], high: &[u8], k: usize) -> bool
-    ensures { λ r. ⌜ r ≡ outOfOrder (now (low .entry)) (now (high .entry)) k ⌝ }
+// The first fault of a link after the one before it, or 0.
+fn link_fault(n: usize, before: Span, low: usize, high: usize, weight: u32) -> u8
+    ensures { λ r. ⌜ r ≡ linkFault n before low high weight ⌝ }
 {
-    if k == 0 {
-        return false;
-    }
-    let before = k - 1;
-    !comes_after(
-        end_at(low, before),
-        end_at(high, before),
-        end_at(low, k),
-        end_at(high, k),
-    )
-}
-
-// The first fault of link k, or 0.
-fn link_fault(n: usize, low: &[u8], high: &[u8], weight: &[u32], k: usize) -> u8
-    requires { ⌜ k < length (now weight) ⌝ }
-    ensures { λ r. ⌜ r ≡ linkFault
-        (record { nodes = n; low = now (low .entry); high = now (high .entry); weight = now (weight .entry) }) k ⌝ }
-{
-    if bad_ends(n, end_at(low, k), end_at(high, k)) {
+    if bad_ends(n, low, high) {
         return refusal::LINK_ENDS;
     }
-    if out_of_order(low, high, k) {
+    if descends(before, low, high) {
         return refusal::LINK_ORDER;
     }
-    if bad_weight(weight[k]) {
+    if bad_weight(weight) {
         return refusal::LINK_WEIGHT;
     }
-    refusal::NONE
+    if lighter_twin(before, low, high, weight) {
+        refusal::LINK_ORDER
+    } else {
+        refusal::NONE
+    }
 }
 
 pub fn check_network(n: usize, low: &[u8], high: &[u8], weight: &[u32]) -> Verdict
@@ -126,15 +132,26 @@ pub fn check_network(n: usize, low: &[u8], high: &[u8], weight: &[u32]) -> Verdi
     if limit::LINKS < links {
         return unplaced(refusal::LINK_COUNT);
     }
+    let mut before = Span {
+        low: 0,
+        high: 0,
+        weight: 0,
+    };
     let mut k = 0;
     while k < links {
-        let fault = link_fault(n, low, high, weight, k);
+        let link = Span {
+            low: end_at(low, k),
+            high: end_at(high, k),
+            weight: weight[k],
+        };
+        let fault = link_fault(n, before, link.low, link.high, link.weight);
         if fault != refusal::NONE {
             return Verdict {
                 number: fault,
                 place: k,
             };
         }
+        before = link;
         k += 1;
     }
     unplaced(refusal::NONE)

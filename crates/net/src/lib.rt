@@ -8,12 +8,14 @@ pub mod limit;
 pub mod link_set;
 pub mod refusal;
 
+pub use check::Span;
 pub use check::Verdict;
 pub use check::bad_node_count;
 pub use check::bad_weight;
 pub use check::check_network;
-pub use check::comes_after;
+pub use check::descends;
 pub use check::end_at;
+pub use check::lighter_twin;
 pub use check::unplaced;
 pub use failure::Failure;
 pub use failure::blocked;

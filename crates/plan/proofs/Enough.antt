@@ -70,13 +70,16 @@ fault-first (Fault.low-end {m} {v} {R} rest due fits over) long =
 fault-first (Fault.high-end {m} {low} {v} {R} rest due node fits bad) long =
     number-first (Due.for-difference due node) (planStart m R ++ (stored low ++ (stored v ++ rest))) (stored v) rest (simp append-assoc)
     (few-groups v) long (λ more. simp append-assoc (Fault.high-end more due node fits bad))
-fault-first (Fault.order {m} {low} {difference} {R} rest due some node not-after) long =
+fault-first (Fault.order {m} {low} {difference} {R} rest due some node descending) long =
     let node-low : low < R .nodes = omega arith in
     number-first (Due.for-difference due node-low) (planStart m R ++ (stored low ++ (stored difference ++ rest))) (stored difference) rest
-    (simp append-assoc) (few-groups difference) long (λ more. simp append-assoc (Fault.order more due some node not-after))
+    (simp append-assoc) (few-groups difference) long (λ more. simp append-assoc (Fault.order more due some node descending))
 fault-first (Fault.weighs {m} {low} {difference} {v} {R} rest due pass fits bad) long =
     number-first (Due.for-weight due pass) (planStart m R ++ (stored low ++ (stored difference ++ (stored v ++ rest)))) (stored v) rest
     (simp append-assoc) (few-groups v) long (λ more. simp append-assoc (Fault.weighs more due pass fits bad))
+fault-first (Fault.lighter {m} {low} {difference} {weight} {R} rest due pass some light lighter) long =
+    number-first (Due.for-weight due pass) (planStart m R ++ (stored low ++ (stored difference ++ (stored weight ++ rest)))) (stored weight)
+    rest (simp append-assoc) (few-groups weight) long (λ more. simp append-assoc (Fault.lighter more due pass some light lighter))
 fault-first (Fault.bytes-left {R} rest network some) long =
     first-bytes (planOf R ++ rest) (planOf R) rest refl (plan-short network) long
     (λ more some-more. Fault.bytes-left more network some-more)

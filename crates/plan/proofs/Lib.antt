@@ -2,7 +2,6 @@ pub mod Lengths
 pub mod Stored
 pub mod Groups
 pub mod Readings
-pub mod Tests
 pub mod Reached
 pub mod LinkPasses
 pub mod Faults

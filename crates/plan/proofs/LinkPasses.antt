@@ -1,7 +1,6 @@
 -- One more link passes: the rows get one place more at their end, and the bytes that have passed get that link's.
-use Prim.Native.Nat.{ℕ, zero, suc, _+_, _-_, _≤_, _<_}
+use Prim.Native.Nat.{ℕ, zero, suc, _+_, _≤_, _<_}
 use mathlib.Core.Path.{_≡_, refl}
-use mathlib.Core.Logic.{inl, inr}
 use mathlib.Core.List.{List, [], _∷_, _++_, append-assoc}
 use native.Mathlib.Nat.{zero-add}
 use native.Mathlib.Decide.{decLt}
@@ -9,9 +8,10 @@ use native.Mathlib.Omega.{arith}
 use lib.ListN.{length, getD, length-append, List·getD-append}
 use lib.Seq.{getD-at}
 use Rattle.net.specs.Rows.{Rows}
-use Rattle.net.specs.Check.{Joins}
+use Rattle.net.specs.Check.{spanAt, Joins, Ascends, TwinsAscend}
+use Rattle.net.specs.declared.check.Span.{Span}
 use Rattle.plan.specs.Plan.{linkBytes, linksBytes, planStart}
-use Rattle.plan.specs.Fault.{Follows, Passed, LinkDue}
+use Rattle.plan.specs.Fault.{Follows, TwinFollows, Passed, LinkDue}
 use Rattle.plan.proofs.Reached.{one-more-link}
 
 module _ {m : ℕ} {R : Rows} (due : LinkDue m R) (l h w : ℕ) where
@@ -30,8 +30,36 @@ module _ {m : ℕ} {R : Rows} (due : LinkDue m R) (l h w : ℕ) where
   new : (row : List ℕ) (x k : ℕ) → length row ≡ length low → k ≡ length low → getD (row ++ (x ∷ [])) k 0 ≡ x
   new row x k same last = getD-at row x [] 0 k (omega arith)
 
-  pub passes-more : Joins n l h w → Follows R l h → Passed m longer-rows
-  passes-more joins follows =
+  -- the old links are as they were, and the new one is the last
+  old-span : (k : ℕ) → k < length low → spanAt longer-rows k ≡ spanAt R k
+  old-span k before =
+      let network = due .passed .network in
+      rw (old low l k refl before, old high h k (network .high-row) before, old weight w k (network .weight-row) before)
+
+  abbrev new-link : Span
+  new-link = record { low = l; high = h; weight = w }
+
+  new-span : (k : ℕ) → k ≡ length low → spanAt longer-rows k ≡ new-link
+  new-span k last =
+      let network = due .passed .network in
+      rw (new low l k refl last, new high h k (network .high-row) last, new weight w k (network .weight-row) last)
+
+  -- what holds of each two links that follow each other, and of the new link after the last
+  pairs : (Holds : Span → Span → Type 0) → ((k : ℕ) → suc k < length low → Holds (spanAt R k) (spanAt R (suc k)))
+      → ((k : ℕ) → suc k ≡ length low → Holds (spanAt R k) new-link)
+      → (k : ℕ) → suc k < length (low ++ (l ∷ [])) → Holds (spanAt longer-rows k) (spanAt longer-rows (suc k))
+  pairs Holds olds news k within =
+      let before : k < length low = omega (arith, longer low l refl) in
+      rw (old-span k before)
+      (elim (decLt (suc k) (length low)) [
+        | yes both ↦ rw (old-span (suc k) both) (olds k both)
+        | no after ↦
+            let last : suc k ≡ length low = omega (arith, longer low l refl) in
+            rw (new-span (suc k) last) (news k last)
+      ])
+
+  pub passes-more : Joins n l h w → Follows R l h → TwinFollows R l h w → Passed m longer-rows
+  passes-more joins follows twin-follows =
       let network = due .passed .network in
       let few = due .passed .few-links in
       let hs = network .high-row in
@@ -51,17 +79,8 @@ module _ {m : ℕ} {R : Rows} (due : LinkDue m R) (l h w : ℕ) where
                         let last : k ≡ length low = omega (arith, longer low l refl) in
                         rw (new low l k refl last, new high h k hs last, new weight w k ws last) joins
                   ];
-              ascends = λ k within.
-                  let before : k < length low = omega (arith, longer low l refl) in
-                  rw (old low l k refl before, old high h k hs before)
-                  (elim (decLt (suc k) (length low)) [
-                    | yes both ↦ rw (old low l (suc k) refl both, old high h (suc k) hs both) (network .ascends k both)
-                    | no after ↦
-                        let last : suc k ≡ length low = omega (arith, longer low l refl) in
-                        let one-before : length low - 1 ≡ k = omega arith in
-                        rw (new low l (suc k) refl last, new high h (suc k) hs last)
-                        (elim follows [ inl none ↦ absurd (omega arith) | inr ascends ↦ rw one-before at ascends ])
-                  ]);
+              ascends = pairs (λ before link. Ascends before (link .low) (link .high)) (network .ascends) follows;
+              twins = pairs (λ before link. TwinsAscend before (link .low) (link .high) (link .weight)) (network .twins) twin-follows;
             };
         few-links = few;
         within = omega (arith, longer low l refl);

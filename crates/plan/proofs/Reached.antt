@@ -2,10 +2,9 @@
 -- number with the rows filled so far. The argument is an induction on the links passed; each link is its three numbers, and each
 -- number is read as it was stored. The list is a variable with an equation that says where it is cut, so that nothing is regrouped.
 use Prim.Native.Nat.{ℕ, zero, suc, _+_, _-_, _≤_, _<_}
-use mathlib.Core.Bool.{true}
+use mathlib.Core.Bool.{false}
 use mathlib.Core.Path.{_≡_, refl, sym, ap, _∙_}
-use mathlib.Core.Logic.{inl, inr}
-use mathlib.Core.List.{List, [], _∷_, _++_, append-assoc, append-nil}
+use mathlib.Core.List.{List, [], _++_, append-assoc, append-nil}
 use native.Mathlib.Nat.{zero-add, add-zero, sub-zero}
 use native.Mathlib.Numerals.{add-one}
 use native.Mathlib.Omega.{arith}
@@ -13,8 +12,9 @@ use lib.ListN.{length, getD, take, set, replicate, length-append}
 use lib.Seq.{append-snoc, set-at, take-suc, take-length, length-take-le}
 use Rattle.net.specs.Limits.{mostNodes, mostLinks}
 use Rattle.net.specs.Rows.{Rows}
-use Rattle.net.specs.Check.{Joins, comesAfter}
-use Rattle.net.proofs.Faults.{few-nodes}
+use Rattle.net.specs.Check.{Joins, descends, lighterTwin, spanBefore}
+use Rattle.net.specs.declared.check.Span.{Span}
+use Rattle.net.proofs.Tests.{fails, count-tells, weight-tells, order-tells, twin-order-tells}
 use Rattle.plan.specs.declared.number.Number.the-variants.{Value}
 use Rattle.plan.specs.declared.reader.Reading.{Reading}
 use Rattle.plan.specs.declared.reader.LinkRead.{LinkRead}
@@ -22,9 +22,8 @@ use Rattle.plan.specs.declared.reader.LinkRead.the-variants.{Got, Refuse
 use Rattle.plan.specs.Number.{mostStored, stored, numberAt}
 use Rattle.plan.specs.Plan.{linkBytes, linkBytesAt, linksBytes, planStart}
 use Rattle.plan.specs.Reader.{refusal, weightAt, differenceAt, linkAt, linksRead, linkCountAt, readPlan}
-use Rattle.plan.specs.Fault.{Passed, LinkDue, Follows, EndsPass, padded}
+use Rattle.plan.specs.Fault.{Passed, LinkDue, EndsPass, padded}
 use Rattle.plan.proofs.Stored.{number-reads}
-use Rattle.plan.proofs.Tests.{good-weight, Decides, holds, fails, decided-true, ascends-decided, first-comes}
 use Rattle.plan.proofs.Readings as laws
 
 -- a number of a list that is cut before and after it
@@ -37,30 +36,26 @@ module _ (s before rest : List ℕ) where
   cut-after number cut = cut ∙ sym (append-assoc before number rest)
 
 -- a whole link
-link-passes : (s before rest : List ℕ) (n lowBefore highBefore low high weight : ℕ) → n ≤ mostNodes → Joins n low high weight
-    → comesAfter lowBefore highBefore low high ≡ true → s ≡ before ++ (linkBytes low high weight ++ rest)
-    → linkAt s n (length before) lowBefore highBefore ≡ Got low high weight (length (before ++ linkBytes low high weight))
+link-passes : (s before rest : List ℕ) (n : ℕ) (link-before : Span) (low high weight : ℕ) → n ≤ mostNodes → Joins n low high weight
+    → descends link-before low high ≡ false → lighterTwin link-before low high weight ≡ false
+    → s ≡ before ++ (linkBytes low high weight ++ rest)
+    → linkAt s n (length before) link-before ≡ Got low high weight (length (before ++ linkBytes low high weight))
 unfolding linkBytes
-link-passes s before rest n lowBefore highBefore low high weight few joins after cut =
+link-passes s before rest n link-before low high weight few joins in-order heavy-enough cut =
     let high-end : low + (high - low) ≡ high = omega arith in
     let at-low : s ≡ before ++ (stored low ++ (stored (high - low) ++ (stored weight ++ rest))) = simp append-assoc at cut in
     let at-difference = cut-after s before _ (stored low) at-low in
     let at-weight = cut-after s (before ++ stored low) _ (stored (high - low)) at-difference in
     let after-low =
-    laws.low-read s n (length before) lowBefore highBefore refl low _ (number-in s before _ low (omega arith) at-low) (omega arith) in
+    laws.low-read s n (length before) link-before refl low _ (number-in s before _ low (omega arith) at-low) (omega arith) in
     let after-difference =
-    laws.difference-read s n (length before) (length (before ++ stored low)) low lowBefore highBefore refl (high - low) _
-    (number-in s (before ++ stored low) _ (high - low) (omega arith) at-difference) (omega arith) (omega arith) (rw high-end after) in
+    laws.difference-read s n (length before) (length (before ++ stored low)) low link-before refl (high - low) _
+    (number-in s (before ++ stored low) _ (high - low) (omega arith) at-difference) (omega arith) (omega arith) (rw high-end in-order) in
     let after-weight =
-    laws.weight-read s _ low (low + (high - low)) refl weight _
+    laws.weight-read s (length before) _ low (low + (high - low)) link-before refl weight _
     (number-in s ((before ++ stored low) ++ stored (high - low)) rest weight (omega arith) at-weight)
-    (good-weight weight (joins .weighs) (joins .light)) in
+    (fails (weight-tells weight) (joins .weighs, joins .light)) (rw high-end heavy-enough) in
     after-low ∙ after-difference ∙ after-weight ∙ simp (high-end, append-assoc)
-
--- the end of the link before link k: 0 before the first one
-unfoldable pub endBefore : List ℕ → ℕ → ℕ
-endBefore row zero = 0
-endBefore row (suc k) = getD row k 0
 
 -- a row with its first k places filled
 unfoldable pub filled : ℕ → List ℕ → List ℕ
@@ -85,33 +80,11 @@ one-more-link R (suc left) k =
 -- the counts
 pub nodes-pass : (s rest : List ℕ) (n : ℕ) → 0 < n → n ≤ mostNodes → s ≡ stored n ++ rest → readPlan s ≡ linkCountAt s n (length (stored n))
 nodes-pass s rest n some few cut =
-    laws.node-count-read s refl n _ (number-in s [] rest n (omega arith) cut) (few-nodes n (λ none. omega arith) few)
+    laws.node-count-read s refl n _ (number-in s [] rest n (omega arith) cut) (fails (count-tells n) (some, few))
 
-module _ (R : Rows) where
-  open Rows R using (nodes as n, low, high, weight)
-
-  -- the ends of the last link, which the next one is compared with
-  abbrev pub lastLow : ℕ
-  lastLow = endBefore low (length low)
-
-  abbrev pub lastHigh : ℕ
-  lastHigh = endBefore high (length low)
-
-  pub follows-decided : (l h : ℕ) → l < h → Decides (comesAfter lastLow lastHigh l h) (Follows R l h)
-  unfolding endBefore
-  follows-decided l h below = go low
-    where
-      go : (row : List ℕ) → Decides (comesAfter (endBefore row (length row)) (endBefore high (length row)) l h)
-          (Follows (record { nodes = n; low = row; high = high; weight = weight }) l h)
-      go [] = holds (first-comes l h below) (inl refl)
-      go (first ∷ more) =
-          let last : suc (length more) - 1 ≡ length more = omega arith in
-          rw last
-          (elim (ascends-decided (getD (first ∷ more) (length more) 0) (getD high (length more) 0) l h) [
-            | holds after ascends ↦ holds after (inr ascends)
-            | fails before not-ascends ↦
-                fails before (λ follows. elim follows [ inl none ↦ omega arith | inr ascends ↦ not-ascends ascends ])
-          ])
+-- the last link, which the next one is compared with
+abbrev pub lastLink : Rows → Span
+lastLink R = spanBefore R (length (R .low))
 
 -- The links: the reading of a list that begins with bytes that have passed is the reading that stands after them.
 module _ {m : ℕ} {R : Rows} (passed : Passed m R) where
@@ -125,20 +98,22 @@ module _ {m : ℕ} {R : Rows} (passed : Passed m R) where
   abbrev rowsTo : ℕ → Rows
   rowsTo k = record { nodes = n; low = filled k low; high = filled k high; weight = filled k weight }
 
-  comes : (k : ℕ) → k < length low → comesAfter (endBefore low k) (endBefore high k) (getD low k 0) (getD high k 0) ≡ true
-  unfolding endBefore
-  comes zero within = first-comes (getD low 0 0) (getD high 0 0) (passed .network .joins 0 within .below)
-  comes (suc k) within = decided-true (ascends-decided _ _ _ _) (passed .network .ascends k within)
+  -- a link that has passed does so after the one before it
+  in-order : (k : ℕ) → k < length low → descends (spanBefore R k) (getD low k 0) (getD high k 0) ≡ false
+  in-order k within = fails (order-tells R k _ _) (λ j e. rw (sym e) (passed .network .ascends j (omega arith)))
+
+  heavy-enough : (k : ℕ) → k < length low → lighterTwin (spanBefore R k) (getD low k 0) (getD high k 0) (getD weight k 0) ≡ false
+  heavy-enough k within = fails (twin-order-tells R k _ _ _) (λ j e. rw (sym e) (passed .network .twins j (omega arith)))
 
   grown : (k : ℕ) → bytesTo (suc k) ≡ bytesTo k ++ linkBytesAt R k
   grown k = simp (one-more-link R k 0, zero-add, append-assoc)
 
   -- the reading that stands at link k
   abbrev standsAt : List ℕ → ℕ → Reading
-  standsAt s k = linksRead (m - k) s m (length (bytesTo k)) (endBefore low k) (endBefore high k) k (rowsTo k)
+  standsAt s k = linksRead (m - k) s m (length (bytesTo k)) (spanBefore R k) k (rowsTo k)
 
   begins-links : (s rest : List ℕ) → s ≡ bytesTo zero ++ rest → readPlan s ≡ standsAt s zero
-  unfolding endBefore filled linksBytes
+  unfolding spanBefore filled linksBytes
   begins-links s rest cut =
       let at-nodes : s ≡ stored n ++ (stored m ++ rest) = simp (append-nil, append-assoc) at cut in
       let after-count = number-in s (stored n) rest m (omega arith) at-nodes in
@@ -148,12 +123,12 @@ module _ {m : ℕ} {R : Rows} (passed : Passed m R) where
 
   passes-link : (k : ℕ) → k < length low → (s rest : List ℕ) → s ≡ bytesTo k ++ (linkBytesAt R k ++ rest)
       → standsAt s k ≡ standsAt s (suc k)
-  unfolding endBefore
+  unfolding spanBefore
   passes-link k within s rest cut =
       let read =
-      link-passes s (bytesTo k) rest n (endBefore low k) (endBefore high k) (getD low k 0) (getD high k 0) (getD weight k 0)
-      (passed .network .few-nodes) (passed .network .joins k within) (comes k within) cut in
-      let on = laws.link-read s m (length (bytesTo k)) (endBefore low k) (endBefore high k) k (rowsTo k) (omega arith) refl _ _ _ _ read in
+      link-passes s (bytesTo k) rest n (spanBefore R k) (getD low k 0) (getD high k 0) (getD weight k 0)
+      (passed .network .few-nodes) (passed .network .joins k within) (in-order k within) (heavy-enough k within) cut in
+      let on = laws.link-read s m (length (bytesTo k)) (spanBefore R k) k (rowsTo k) (omega arith) refl _ _ _ _ read in
       rw add-one at on
       ∙ rw (grown k, fills low k within (omega arith), fills high k (omega arith) (omega arith), fills weight k (omega arith) (omega arith))
 
@@ -170,7 +145,7 @@ module _ {m : ℕ} {R : Rows} (passed : Passed m R) where
 
   pub reaches-end : (s rest : List ℕ) → s ≡ planStart m R ++ rest
       → readPlan s
-      ≡ linksRead (m - length low) s m (length (planStart m R)) (lastLow R) (lastHigh R) (length low)
+      ≡ linksRead (m - length low) s m (length (planStart m R)) (lastLink R) (length low)
       (record { nodes = n; low = padded low; high = padded high; weight = padded weight })
   unfolding planStart
   reaches-end s rest cut =
@@ -178,38 +153,40 @@ module _ {m : ℕ} {R : Rows} (passed : Passed m R) where
       ∙ rw (all-filled low refl, all-filled high (passed .network .high-row), all-filled weight (passed .network .weight-row))
 
 module _ {m : ℕ} {R : Rows} (due : LinkDue m R) (s : List ℕ) where
-  open Rows R using (nodes as n, low, high)
+  open Rows R using (nodes as n, low)
 
   -- the link that is due, stored after those that have passed
   abbrev pub linkDue : LinkRead
-  linkDue = linkAt s n (length (planStart m R)) (lastLow R) (lastHigh R)
+  linkDue = linkAt s n (length (planStart m R)) (lastLink R)
 
   pub link-refused : (rest : List ℕ) (number place : ℕ) → s ≡ planStart m R ++ rest → linkDue ≡ Refused number place
       → readPlan s ≡ refusal number place
   link-refused rest number place cut refused =
-      reaches-end (due .passed) s rest cut ∙ laws.link-refused s m _ _ _ (length low) _ (due .more) refl number place refused
+      reaches-end (due .passed) s rest cut ∙ laws.link-refused s m _ _ (length low) _ (due .more) refl number place refused
 
   module _ (l : ℕ) (rest : List ℕ) (node : l < n) (cut : s ≡ planStart m R ++ (stored l ++ rest)) where
     pub at-difference : s ≡ (planStart m R ++ stored l) ++ rest
     at-difference = cut-after s (planStart m R) rest (stored l) cut
 
     pub reaches-difference
-        : linkDue ≡ differenceAt s n (length (planStart m R)) (length (planStart m R ++ stored l)) l (lastLow R) (lastHigh R)
+        : linkDue ≡ differenceAt s n (length (planStart m R)) (length (planStart m R ++ stored l)) l (lastLink R)
     reaches-difference =
         let few = due .passed .network .few-nodes in
-        laws.low-read s n _ _ _ refl l _ (number-in s (planStart m R) rest l (omega arith) cut) node
+        laws.low-read s n _ _ refl l _ (number-in s (planStart m R) rest l (omega arith) cut) node
 
   module _ (l e : ℕ) (rest : List ℕ) (pass : EndsPass R l e) (cut : s ≡ planStart m R ++ (stored l ++ (stored e ++ rest))) where
     pub at-weight : s ≡ (planStart m R ++ (stored l ++ stored e)) ++ rest
     at-weight = simp append-assoc cut
 
-    pub reaches-weight : linkDue ≡ weightAt s (length (planStart m R ++ (stored l ++ stored e))) l (l + e)
+    pub reaches-weight
+        : linkDue ≡ weightAt s (length (planStart m R)) (length (planStart m R ++ (stored l ++ stored e))) l (l + e) (lastLink R)
     reaches-weight =
         let few = due .passed .network .few-nodes in
         let node-low : l < n = omega arith in
         let here = at-difference l (stored e ++ rest) node-low cut in
-        let comes-after = decided-true (follows-decided R l (l + e) (omega arith)) (pass .follows) in
+        let in-order = fails (order-tells R (length low) l (l + e)) (pass .follows) in
         reaches-difference l (stored e ++ rest) node-low cut
-        ∙ laws.difference-read s n _ _ l _ _ refl e _
-        (number-in s (planStart m R ++ stored l) rest e (omega arith) here) (omega arith) (pass .node) comes-after
-        ∙ ap (λ (t : List ℕ). weightAt s (length t) l (l + e)) (append-assoc (planStart m R) (stored l) (stored e))
+        ∙ laws.difference-read s n _ _ l _ refl e _
+        (number-in s (planStart m R ++ stored l) rest e (omega arith) here) (omega arith) (pass .node) in-order
+        ∙ ap (λ (t : List ℕ). weightAt s (length (planStart m R)) (length t) l (l + e) (lastLink R))
+        (append-assoc (planStart m R) (stored l) (stored e))

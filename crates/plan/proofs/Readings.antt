@@ -13,7 +13,8 @@ use lib.ListN.{length}
 use Rattle.net.specs.Limits.{mostLinks}
 use Rattle.net.specs.Refusals.{nodeCount, linkCount, linkEnds, linkOrder, linkWeight, bytesLeft}
 use Rattle.net.specs.Rows.{Rows}
-use Rattle.net.specs.Check.{comesAfter, badWeight, badNodeCount}
+use Rattle.net.specs.Check.{descends, badWeight, lighterTwin, badNodeCount, origin}
+use Rattle.net.specs.declared.check.Span.{Span}
 use Rattle.plan.specs.Number.{numberAt}
 use Rattle.plan.specs.Reader.{refusal, success, noLinks, withLink, takeWeight, weightAt, takeDifference, differenceAt}
 use Rattle.plan.specs.Reader.{takeLow, linkAt, takeLink, linksRead, takeLinkCount, linkCountAt, takeNodeCount, readPlan}
@@ -22,31 +23,36 @@ use Rattle.plan.specs.declared.number.Number.the-variants.{Value, Refuse
 use Rattle.plan.specs.declared.reader.LinkRead.{LinkRead}
 use Rattle.plan.specs.declared.reader.LinkRead.the-variants.{Got, Refused}
 
--- a link's weight
-module _ (s : List ℕ) (third low high : ℕ) {answer : Number} (asked : answer ≡ numberAt s third) where
-  pub weight-unread : (number place : ℕ) → answer ≡ NoNumber number place → weightAt s third low high ≡ Refused number place
+-- a link's weight, and its order against a parallel link before
+module _ (s : List ℕ) (first third low high : ℕ) (before : Span) {answer : Number} (asked : answer ≡ numberAt s third) where
+  pub weight-unread : (number place : ℕ) → answer ≡ NoNumber number place → weightAt s first third low high before ≡ Refused number place
   unfolding weightAt takeWeight
   weight-unread number place e = rw (← asked, e)
 
   module _ (weight next : ℕ) (number-read : answer ≡ Value weight next) where
-    pub weight-refused : badWeight weight ≡ true → weightAt s third low high ≡ Refused linkWeight third
+    pub weight-refused : badWeight weight ≡ true → weightAt s first third low high before ≡ Refused linkWeight third
     unfolding weightAt takeWeight
     weight-refused bad = rw (← asked, number-read, bad)
 
-    pub weight-read : badWeight weight ≡ false → weightAt s third low high ≡ Got low high weight next
-    unfolding weightAt takeWeight
-    weight-read good = rw (← asked, number-read, good)
+    module _ (good : badWeight weight ≡ false) where
+      pub twin-refused : lighterTwin before low high weight ≡ true → weightAt s first third low high before ≡ Refused linkOrder first
+      unfolding weightAt takeWeight
+      twin-refused lighter = rw (← asked, number-read, good, lighter)
+
+      pub weight-read : lighterTwin before low high weight ≡ false → weightAt s first third low high before ≡ Got low high weight next
+      unfolding weightAt takeWeight
+      weight-read heavy-enough = rw (← asked, number-read, good, heavy-enough)
 
 -- the difference of a link's ends, and the link's order
-module _ (s : List ℕ) (n first second low lowBefore highBefore : ℕ) {answer : Number} (asked : answer ≡ numberAt s second) where
+module _ (s : List ℕ) (n first second low : ℕ) (before : Span) {answer : Number} (asked : answer ≡ numberAt s second) where
   pub difference-unread : (number place : ℕ) → answer ≡ NoNumber number place
-      → differenceAt s n first second low lowBefore highBefore ≡ Refused number place
+      → differenceAt s n first second low before ≡ Refused number place
   unfolding differenceAt takeDifference
   difference-unread number place e = rw (← asked, e)
 
   module _ (difference third : ℕ) (number-read : answer ≡ Value difference third) where
     pub high-refused : (difference ≡ 0) ⊎ (n ≤ low + difference)
-        → differenceAt s n first second low lowBefore highBefore ≡ Refused linkEnds second
+        → differenceAt s n first second low before ≡ Refused linkEnds second
     unfolding differenceAt takeDifference
     high-refused (inl none) = simp (← asked, number-read, eq-eqb difference 0 none)
     high-refused (inr over) =
@@ -56,58 +62,58 @@ module _ (s : List ℕ) (n first second low lowBefore highBefore : ℕ) {answer 
         ]
 
     module _ (some : difference ≢ 0) (node : low + difference < n) where
-      pub order-refused : comesAfter lowBefore highBefore low (low + difference) ≡ false
-          → differenceAt s n first second low lowBefore highBefore ≡ Refused linkOrder first
+      pub order-refused : descends before low (low + difference) ≡ true
+          → differenceAt s n first second low before ≡ Refused linkOrder first
       unfolding differenceAt takeDifference
-      order-refused before = simp (← asked, number-read, ne-eqb difference 0 some, lt-leb _ _ node, before)
+      order-refused descending = simp (← asked, number-read, ne-eqb difference 0 some, lt-leb _ _ node, descending)
 
-      pub difference-read : comesAfter lowBefore highBefore low (low + difference) ≡ true
-          → differenceAt s n first second low lowBefore highBefore ≡ weightAt s third low (low + difference)
+      pub difference-read : descends before low (low + difference) ≡ false
+          → differenceAt s n first second low before ≡ weightAt s first third low (low + difference) before
       unfolding differenceAt takeDifference
-      difference-read after = simp (← asked, number-read, ne-eqb difference 0 some, lt-leb _ _ node, after)
+      difference-read in-order = simp (← asked, number-read, ne-eqb difference 0 some, lt-leb _ _ node, in-order)
 
 -- a link's low end
-module _ (s : List ℕ) (n first lowBefore highBefore : ℕ) {answer : Number} (asked : answer ≡ numberAt s first) where
+module _ (s : List ℕ) (n first : ℕ) (before : Span) {answer : Number} (asked : answer ≡ numberAt s first) where
   pub low-unread : (number place : ℕ) → answer ≡ NoNumber number place
-      → linkAt s n first lowBefore highBefore ≡ Refused number place
+      → linkAt s n first before ≡ Refused number place
   unfolding linkAt takeLow
   low-unread number place e = rw (← asked, e)
 
   module _ (low second : ℕ) (number-read : answer ≡ Value low second) where
-    pub low-refused : n ≤ low → linkAt s n first lowBefore highBefore ≡ Refused linkEnds first
+    pub low-refused : n ≤ low → linkAt s n first before ≡ Refused linkEnds first
     unfolding linkAt takeLow
     low-refused over = simp (← asked, number-read, le-leb _ _ over)
 
-    pub low-read : low < n → linkAt s n first lowBefore highBefore ≡ differenceAt s n first second low lowBefore highBefore
+    pub low-read : low < n → linkAt s n first before ≡ differenceAt s n first second low before
     unfolding linkAt takeLow
     low-read node = simp (← asked, number-read, lt-leb _ _ node)
 
 -- the links from k on, of m in all
-module _ (s : List ℕ) (m at lowBefore highBefore k : ℕ) (R : Rows) where
+module _ (s : List ℕ) (m at : ℕ) (before : Span) (k : ℕ) (R : Rows) where
   module _ (none-left : k ≡ m) where
     nothing-left : m - k ≡ 0
     nothing-left = omega arith
 
-    pub bytes-left : at < length s → linksRead (m - k) s m at lowBefore highBefore k R ≡ refusal bytesLeft at
+    pub bytes-left : at < length s → linksRead (m - k) s m at before k R ≡ refusal bytesLeft at
     unfolding linksRead
     bytes-left h = simp (nothing-left, lt-ltb _ _ h)
 
-    pub all-read : length s ≤ at → linksRead (m - k) s m at lowBefore highBefore k R ≡ success m R
+    pub all-read : length s ≤ at → linksRead (m - k) s m at before k R ≡ success m R
     unfolding linksRead
     all-read h = simp (nothing-left, le-ltb _ _ h)
 
-  module _ (some-left : k < m) {answer : LinkRead} (asked : answer ≡ linkAt s (R .nodes) at lowBefore highBefore) where
+  module _ (some-left : k < m) {answer : LinkRead} (asked : answer ≡ linkAt s (R .nodes) at before) where
     one-and-more : m - k ≡ suc (m - (k + 1))
     one-and-more = omega arith
 
     pub link-refused : (number place : ℕ) → answer ≡ Refused number place
-        → linksRead (m - k) s m at lowBefore highBefore k R ≡ refusal number place
+        → linksRead (m - k) s m at before k R ≡ refusal number place
     unfolding linksRead takeLink
     link-refused number place e = simp (one-and-more, ← asked, e)
 
     pub link-read : (low high weight next : ℕ) → answer ≡ Got low high weight next
-        → linksRead (m - k) s m at lowBefore highBefore k R
-        ≡ linksRead (m - (k + 1)) s m next low high (k + 1) (withLink R k low high weight)
+        → linksRead (m - k) s m at before k R
+        ≡ linksRead (m - (k + 1)) s m next (record { low = low; high = high; weight = weight }) (k + 1) (withLink R k low high weight)
     unfolding linksRead takeLink
     link-read low high weight next e = simp (one-and-more, ← asked, e)
 
@@ -122,7 +128,7 @@ module _ (s : List ℕ) (n second : ℕ) {answer : Number} (asked : answer ≡ n
     unfolding linkCountAt takeLinkCount
     link-count-refused many = simp (← asked, number-read, lt-ltb _ _ many)
 
-    pub link-count-read : m ≤ mostLinks → linkCountAt s n second ≡ linksRead m s m at 0 0 0 (noLinks n)
+    pub link-count-read : m ≤ mostLinks → linkCountAt s n second ≡ linksRead m s m at origin 0 (noLinks n)
     unfolding linkCountAt takeLinkCount
     link-count-read few = simp (← asked, number-read, le-ltb _ _ few)
 

@@ -1,15 +1,15 @@
--- What each refusal of a stored plan means, in the words of document 01's table and without a reader: which bytes have passed, where
--- the next number is due, and what is wrong with it. A plan is told here from its numbers, as they are stored.
+-- What each refusal of a stored plan means, in the words of document 01's table (of 7 in those of document 02, L5) and without a reader:
+-- which bytes have passed, where the next number is due, and what is wrong with it. A plan is told here from its numbers, as they are stored.
 use Prim.Native.Nat.{ℕ, _+_, _-_, _≤_, _<_}
 use mathlib.Core.Path.{_≡_}
 use mathlib.Core.Logic.{_⊎_, _≢_}
 use mathlib.Core.List.{List, [], _∷_, _++_}
-use lib.ListN.{length, getD, replicate}
-use Rattle.net.specs.Limits.{mostNodes, mostLinks}
+use lib.ListN.{length, replicate}
+use Rattle.net.specs.Limits.{mostNodes, mostLinks, mostWeight}
 use Rattle.net.specs.Refusals.{bytesEnd, numberForm, nodeCount, linkCount, linkEnds, linkOrder, linkWeight, bytesLeft}
 use Rattle.net.specs.Rows.{Rows}
-use Rattle.net.specs.Check.{Ascends, Accepted}
-use Rattle.net.specs.Refused.{BadNodeCount, BadWeight}
+use Rattle.net.specs.Check.{Accepted}
+use Rattle.net.specs.Refused.{BadNodeCount, BadWeight, InOrder, TwinsInOrder}
 use Rattle.plan.specs.Number.{base, groups, mostStored, stored}
 use Rattle.plan.specs.Plan.{planStart, planOf}
 use Rattle.plan.specs.Reader.{success}
@@ -41,10 +41,13 @@ pub record LinkDue (m : ℕ) (R : Rows) : Type 0 where
   pub passed : Passed m R
   pub more : length (R .low) < m
 
--- The next link, low to high, comes after the last of those before it.
+-- The next link, low to high, does not come before the last of those before it,
 abbrev pub Follows : Rows → ℕ → ℕ → Type 0
-Follows R low high =
-    (length (R .low) ≡ 0) ⊎ Ascends (getD (R .low) (length (R .low) - 1) 0) (getD (R .high) (length (R .low) - 1) 0) low high
+Follows R low high = InOrder R (length (R .low)) low high
+
+-- and, if the two join the same pair, does not weigh less.
+abbrev pub TwinFollows : Rows → ℕ → ℕ → ℕ → Type 0
+TwinFollows R low high weight = TwinsInOrder R (length (R .low)) low high weight
 
 -- its ends have passed, the high one stored as the difference
 pub record EndsPass (R : Rows) (low difference : ℕ) : Type 0 where
@@ -81,7 +84,7 @@ pub data Fault : List ℕ → ℕ → ℕ → Type 0 where
   -- "low end not below high end, or high end not a node"
   high-end : {m low v : ℕ} {R : Rows} (rest : List ℕ) → LinkDue m R → low < R .nodes → v < mostStored → (v ≡ 0) ⊎ (R .nodes ≤ low + v)
       → Fault (planStart m R ++ (stored low ++ (stored v ++ rest))) linkEnds (length (planStart m R ++ stored low))
-  -- "link not after the one before it (an equal pair included)"
+  -- "a descending pair" (document 02, L5)
   order : {m low difference : ℕ} {R : Rows} (rest : List ℕ) → LinkDue m R → 0 < difference → low + difference < R .nodes
       → (Follows R low (low + difference) → ⊥)
       → Fault (planStart m R ++ (stored low ++ (stored difference ++ rest))) linkOrder (length (planStart m R))
@@ -89,6 +92,10 @@ pub data Fault : List ℕ → ℕ → ℕ → Type 0 where
   weighs : {m low difference v : ℕ} {R : Rows} (rest : List ℕ) → LinkDue m R → EndsPass R low difference → v < mostStored → BadWeight v
       → Fault (planStart m R ++ (stored low ++ (stored difference ++ (stored v ++ rest)))) linkWeight
       (length (planStart m R ++ (stored low ++ stored difference)))
+  -- "or an equal pair with a smaller weight; [..] this last check comes after 6" (document 02, L5)
+  lighter : {m low difference weight : ℕ} {R : Rows} (rest : List ℕ) → LinkDue m R → EndsPass R low difference
+      → 0 < weight → weight ≤ mostWeight → (TwinFollows R low (low + difference) weight → ⊥)
+      → Fault (planStart m R ++ (stored low ++ (stored difference ++ (stored weight ++ rest)))) linkOrder (length (planStart m R))
   -- "bytes left after the last link"
   bytes-left : {R : Rows} (rest : List ℕ) → Accepted R → rest ≢ [] → Fault (planOf R ++ rest) bytesLeft (length (planOf R))
 

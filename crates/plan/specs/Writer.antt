@@ -1,5 +1,6 @@
--- The writer: "Every entry on a network in memory checks 9, 3, 4, then link by link 5, 7, 6 [..] Then its own", here 10, "the room for
--- the plan is shorter than the plan". "After success only the bytes written differ; the plan writer answers with their count."
+-- The writer: "Every entry on a network in memory checks 9, 3, 4, then link by link 5, 7, 6" (and 7, document 02, L5) "[..] Then its own",
+-- here 10, "the room for the plan is shorter than the plan". "After success only the bytes written differ; the plan writer answers with
+-- their count."
 use Prim.Native.Nat.{ℕ}
 use mathlib.Core.List.{List, _++_}
 use lib.ListN.{length, drop}

@@ -1,16 +1,20 @@
 // The reader: one number after another from the lent bytes, each checked as soon as it has been read. In a link: low end, difference,
-// order against the link before, weight. The first fault ends the reading, in whichever link and number it stands.
+// order against the link before, weight, and that a link between the same two nodes as the one before does not weigh less. The first fault
+// ends the reading, in whichever link and number it stands.
 ghost use mathlib.Core.Path.{_≡_};
 ghost use Prim.Native.Nat.{_≤_};
 ghost use Rattle.net.specs.Limits.{mostNodes};
+ghost use Rattle.net.specs.Check.{origin};
 ghost use Rattle.plan.specs.Reader.{refusal, weightAt, differenceAt, linkAt, noLinks, linksRead, linkCountAt, readPlan};
 ghost use Rattle.plan.specs.inner.Counted.{Counted};
 use crate::cursor::number_at;
 use crate::number::Number;
 use net::Network;
+use net::Span;
 use net::bad_node_count;
 use net::bad_weight;
-use net::comes_after;
+use net::descends;
+use net::lighter_twin;
 use net::limit;
 use net::refusal;
 
@@ -47,15 +51,18 @@ fn refused(number: u8, place: usize) -> Reading
     }
 }
 
-// The weight, the last number of a link whose ends have passed.
-fn read_weight(s: &[u8], third: usize, low: u8, high: u8) -> LinkRead
-    ensures { λ r. ⌜ r ≡ weightAt (now (s .entry)) third low high ⌝ }
+// The weight, the last number of a link whose ends have passed and whose low end stands at first.
+fn read_weight(s: &[u8], first: usize, third: usize, low: u8, high: u8, before: Span) -> LinkRead
+    ensures { λ r. ⌜ r ≡ weightAt (now (s .entry)) first third low high before ⌝ }
 {
     match number_at(s, third) {
         Number::Refused(number, place) => LinkRead::Refused(number, place),
         Number::Value(weight, next) => {
             if bad_weight(weight) {
                 return LinkRead::Refused(refusal::LINK_WEIGHT, third);
+            }
+            if lighter_twin(before, low as usize, high as usize, weight) {
+                return LinkRead::Refused(refusal::LINK_ORDER, first);
             }
             LinkRead::Got(low, high, weight, next)
         }
@@ -69,11 +76,10 @@ fn read_difference(
     first: usize,
     second: usize,
     low: u8,
-    low_before: usize,
-    high_before: usize,
+    before: Span,
 ) -> LinkRead
     requires { ⌜ n ≤ mostNodes ⌝ }
-    ensures { λ r. ⌜ r ≡ differenceAt (now (s .entry)) n first second low «low_before» «high_before» ⌝ }
+    ensures { λ r. ⌜ r ≡ differenceAt (now (s .entry)) n first second low before ⌝ }
 {
     match number_at(s, second) {
         Number::Refused(number, place) => LinkRead::Refused(number, place),
@@ -82,18 +88,19 @@ fn read_difference(
             if difference == 0 || n <= high {
                 return LinkRead::Refused(refusal::LINK_ENDS, second);
             }
-            if comes_after(low_before, high_before, low as usize, high) {
-                return read_weight(s, third, low, high as u8);
+            if descends(before, low as usize, high) {
+                LinkRead::Refused(refusal::LINK_ORDER, first)
+            } else {
+                read_weight(s, first, third, low, high as u8, before)
             }
-            LinkRead::Refused(refusal::LINK_ORDER, first)
         }
     }
 }
 
-// One link: low end, difference, order, weight.
-fn read_link(s: &[u8], n: usize, first: usize, low_before: usize, high_before: usize) -> LinkRead
+// One link: low end, difference, order, weight, order of parallel links.
+fn read_link(s: &[u8], n: usize, first: usize, before: Span) -> LinkRead
     requires { ⌜ n ≤ mostNodes ⌝ }
-    ensures { λ r. ⌜ r ≡ linkAt (now (s .entry)) n first «low_before» «high_before» ⌝ }
+    ensures { λ r. ⌜ r ≡ linkAt (now (s .entry)) n first before ⌝ }
 {
     match number_at(s, first) {
         Number::Refused(number, place) => LinkRead::Refused(number, place),
@@ -101,7 +108,7 @@ fn read_link(s: &[u8], n: usize, first: usize, low_before: usize, high_before: u
             if n <= low as usize {
                 return LinkRead::Refused(refusal::LINK_ENDS, first);
             }
-            read_difference(s, n, first, second, low as u8, low_before, high_before)
+            read_difference(s, n, first, second, low as u8, before)
         }
     }
 }
@@ -109,13 +116,16 @@ fn read_link(s: &[u8], n: usize, first: usize, low_before: usize, high_before: u
 // All links, then the end of the bytes.
 fn read_links(s: &[u8], n: usize, m: usize, first: usize) -> Reading
     requires { ⌜ Counted n m ⌝ }
-    ensures { λ r. ⌜ r ≡ linksRead m (now (s .entry)) m first 0 0 0 (noLinks n) ⌝ }
+    ensures { λ r. ⌜ r ≡ linksRead m (now (s .entry)) m first origin 0 (noLinks n) ⌝ }
 {
     let mut low = [0u8; limit::LINKS];
     let mut high = [0u8; limit::LINKS];
     let mut weight = [0u32; limit::LINKS];
-    let mut low_before: usize = 0;
-    let mut high_before: usize = 0;
+    let mut before = Span {
+        low: 0,
+        high: 0,
+        weight: 0,
+    };
     let mut at = first;
     let mut k: usize = 0;
     'links: loop {
@@ -136,14 +146,17 @@ fn read_links(s: &[u8], n: usize, m: usize, first: usize) -> Reading
                 network: network,
             };
         }
-        match read_link(s, n, at, low_before, high_before) {
+        match read_link(s, n, at, before) {
             LinkRead::Refused(number, place) => break 'links refused(number, place),
             LinkRead::Got(l, h, w, next) => {
                 low[k] = l;
                 high[k] = h;
                 weight[k] = w;
-                low_before = l as usize;
-                high_before = h as usize;
+                before = Span {
+                    low: l as usize,
+                    high: h as usize,
+                    weight: w,
+                };
                 at = next;
                 k += 1;
             }

@@ -16,7 +16,8 @@ use Rattle.net.specs.Refusals.{accepted}
 use Rattle.net.specs.Choice.{both}
 use Rattle.net.specs.Rows.{Rows, networkOf}
 use Rattle.net.specs.Check.{Accepted}
-use Rattle.net.specs.Check.{comesAfter, badEnds, badWeight, outOfOrder, linkFault, linksFrom, rowsDiffer, badNodeCount, checkNetwork}
+use Rattle.net.specs.Check.{descends, lighterTwin, spanBefore, badEnds, badWeight, linkFault, linksFrom, rowsDiffer, badNodeCount}
+use Rattle.net.specs.Check.{checkNetwork}
 use Rattle.net.specs.Entry.{byteOf}
 use Rattle.net.proofs.Rows.{row-present}
 use Rattle.net.proofs.Accepted.{check-accepts, well-formed}
@@ -160,7 +161,7 @@ all-hold (r ∷ rest) fit same =
 pub bench-sheet : Every Holds rows
 unfolding rows allFit fits within given answered courseOver
     planA squarePlan pairPlan chainPlan gapTables partedPlan
-    comesAfter badEnds badWeight outOfOrder linkFault linksFrom rowsDiffer badNodeCount checkNetwork
+    descends lighterTwin spanBefore badEnds badWeight linkFault linksFrom rowsDiffer badNodeCount checkNetwork
     link reverse byDirection tail head visits failedBy around stepBy endsBy crossing goesOn walkFrom walkOf byteOf
     setValue noLinks withLink hasLink isEmpty comesBefore meeting noCost hereCost isKnown before extended entryAt
     startColumn offer linkOffers makesOffers offeringFrom offeringLinks turnOf roundFrom roundOf roundsFrom settled blankFrom blanked

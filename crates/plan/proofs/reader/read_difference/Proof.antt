@@ -26,11 +26,11 @@ add-high c = search needs
 returns : tie.Need-returns
 returns c =
     let at-difference = c .before .before in
-    sym (high-refused _ _ _ _ _ _ _ (at-difference .before .before .number-at .ensures) _ _ (at-difference .difference .given .1)
+    sym (high-refused _ _ _ _ _ _ (at-difference .before .before .number-at .ensures) _ _ (at-difference .difference .given .1)
     (⊎-elim (λ none. inl (none .taken)) (λ over. inr (leb-true _ _ (over .1 .taken))) (c .if1 .came)))
 
-comes-after-requires : tie.Need-comes-after-requires
-comes-after-requires c κs = search needs
+descends-requires : tie.Need-descends-requires
+descends-requires c κs = search needs
 
 cast-read-weight : tie.Need-cast-read-weight
 cast-read-weight c = omega (arith, leb-false)
@@ -40,23 +40,23 @@ read-weight-requires c κs = search needs
 
 returns-2 : tie.Need-returns-2
 returns-2 c =
-    let node = c .before .before .before in
-    let at-difference = node .before .before .before in
-    c .read-weight .ensures
-    ∙ sym (difference-read _ _ _ _ _ _ _ (at-difference .before .before .number-at .ensures) _ _ (at-difference .difference .given .1)
-    (node .before .if1 .left) (leb-false _ _ (node .if2 .left)) (sym (c .before .before .comes-after .ensures) ∙ c .before .if3 .taken))
+    let at-refusal = c .before in
+    sym (difference-unread _ _ _ _ _ _ (at-refusal .before .before .number-at .ensures) _ _ (at-refusal .number .given .1))
 
 returns-3 : tie.Need-returns-3
 returns-3 c =
-    let at-refusal = c .before in
-    sym (difference-unread _ _ _ _ _ _ _ (at-refusal .before .before .number-at .ensures) _ _ (at-refusal .number .given .1))
+    let node = c .before .before in
+    let at-difference = node .before .before .before in
+    sym (order-refused _ _ _ _ _ _ (at-difference .before .before .number-at .ensures) _ _ (at-difference .difference .given .1)
+    (node .before .if1 .left) (leb-false _ _ (node .if2 .left)) (sym (c .before .descends .ensures) ∙ c .if3 .taken))
 
 returns-4 : tie.Need-returns-4
 returns-4 c =
-    let node = c .before .before in
+    let node = c .before .before .before in
     let at-difference = node .before .before .before in
-    sym (order-refused _ _ _ _ _ _ _ (at-difference .before .before .number-at .ensures) _ _ (at-difference .difference .given .1)
-    (node .before .if1 .left) (leb-false _ _ (node .if2 .left)) (sym (c .before .comes-after .ensures) ∙ c .if3 .left))
+    c .read-weight .ensures
+    ∙ sym (difference-read _ _ _ _ _ _ (at-difference .before .before .number-at .ensures) _ _ (at-difference .difference .given .1)
+    (node .before .if1 .left) (leb-false _ _ (node .if2 .left)) (sym (c .before .before .descends .ensures) ∙ c .before .if3 .left))
 
 pub read-difference-spec : {M : Type 1} → statement M
 read-difference-spec =
@@ -68,7 +68,7 @@ read-difference-spec =
     cast-high
     add-high
     returns
-    comes-after-requires
+    descends-requires
     cast-read-weight
     read-weight-requires
     returns-2

@@ -20,7 +20,7 @@ cast-if1 c = search needs
 returns : tie.Need-returns
 returns c =
     let at-low = c .before .before in
-    sym (low-refused _ _ _ _ _ (at-low .before .before .number-at .ensures) _ _ (at-low .low .given .1) (c .if1 .taken))
+    sym (low-refused _ _ _ _ (at-low .before .before .number-at .ensures) _ _ (at-low .low .given .1) (c .if1 .taken))
 
 cast-read-difference : tie.Need-cast-read-difference
 cast-read-difference c = search needs
@@ -31,13 +31,13 @@ read-difference-requires c κs = search needs
 returns-2 : tie.Need-returns-2
 returns-2 c =
     let at-refusal = c .before in
-    sym (low-unread _ _ _ _ _ (at-refusal .before .before .number-at .ensures) _ _ (at-refusal .number .given .1))
+    sym (low-unread _ _ _ _ (at-refusal .before .before .number-at .ensures) _ _ (at-refusal .number .given .1))
 
 returns-3 : tie.Need-returns-3
 returns-3 c =
     let at-low = c .before .before .before in
     c .read-difference .ensures
-    ∙ sym (low-read _ _ _ _ _ (at-low .before .before .number-at .ensures) _ _ (at-low .low .given .1) (c .before .if1 .left))
+    ∙ sym (low-read _ _ _ _ (at-low .before .before .number-at .ensures) _ _ (at-low .low .given .1) (c .before .if1 .left))
 
 pub read-link-spec : {M : Type 1} → statement M
 read-link-spec =

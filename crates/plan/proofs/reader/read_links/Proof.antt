@@ -7,22 +7,24 @@ use native.Mathlib.Nat.{sub-zero}
 use native.Mathlib.Omega.{arith}
 use borrow.Author.Needs.{needs}
 use Rattle.net.specs.Rows.{Rows}
+use Rattle.net.specs.Check.{origin}
+use Rattle.net.specs.declared.check.Span.{Span}
 use Rattle.plan.specs.Reader.{noLinks, linksRead}
 use Rattle.plan.proofs.Readings.{bytes-left, all-read, link-refused, link-read}
 use Rattle.plan.proofs.reader.read_links.Statement.{statement}
 use Rattle.plan.proofs.reader.read_links.Tie as tie
 
--- the links below k have been read
-record From (s : List ℕ) (n m first lowBefore highBefore at k : ℕ) (R : Rows) : Type 0 where
+-- the links below k have been read, the last of them is `before`
+record From (s : List ℕ) (n m first : ℕ) (before : Span) (at k : ℕ) (R : Rows) : Type 0 where
   within : k ≤ m
-  rest : linksRead m s m first 0 0 0 (noLinks n) ≡ linksRead (m - k) s m at lowBefore highBefore k R
+  rest : linksRead m s m first origin 0 (noLinks n) ≡ linksRead (m - k) s m at before k R
 
 abbrev Inv-links : tie.InvT-links
-Inv-links s n m first low₀ high₀ weight₀ low-before₀ high-before₀ at₀ k₀ low high weight low-before high-before at k =
-    From s n m first low-before high-before at k (record { nodes = n; low = low; high = high; weight = weight })
+Inv-links s n m first low₀ high₀ weight₀ before₀ at₀ k₀ low high weight before at k =
+    From s n m first before at k (record { nodes = n; low = low; high = high; weight = weight })
 
 abbrev μ-links : tie.MeasureT-links
-μ-links s n m first low₀ high₀ weight₀ low-before₀ high-before₀ at₀ k₀ low high weight low-before high-before at k =
+μ-links s n m first low₀ high₀ weight₀ before₀ at₀ k₀ low high weight before at k =
     m - k
 
 links-holds : tie.Need-links-holds Inv-links μ-links
@@ -55,11 +57,11 @@ mul-weight c = search needs
 array-write-weight : tie.Need-array-write-weight Inv-links μ-links
 array-write-weight c = search needs
 
-cast-low-before : tie.Need-cast-low-before Inv-links μ-links
-cast-low-before c = search needs
+cast-t30 : tie.Need-cast-t30 Inv-links μ-links
+cast-t30 c = search needs
 
-cast-high-before : tie.Need-cast-high-before Inv-links μ-links
-cast-high-before c = search needs
+cast-t33 : tie.Need-cast-t33 Inv-links μ-links
+cast-t33 c = search needs
 
 add-k : tie.Need-add-k Inv-links μ-links
 add-k c = search needs
@@ -79,25 +81,25 @@ links-again c =
       within = omega (arith, more);
       rest =
           at-link .before .before .links .inv .rest
-          ∙ link-read _ _ _ _ _ _ _ more (at-link .read-link .ensures) _ _ _ _ (c .before .l .given .1);
+          ∙ link-read _ _ _ _ _ _ more (at-link .read-link .ensures) _ _ _ _ (c .before .l .given .1);
     }
 
 returns : tie.Need-returns Inv-links μ-links
 returns c =
     let all = c .before .before in
-    c .refused .ensures ∙ sym (all .before .links .inv .rest ∙ bytes-left _ _ _ _ _ _ _ (all .if1 .taken) (c .before .if2 .taken))
+    c .refused .ensures ∙ sym (all .before .links .inv .rest ∙ bytes-left _ _ _ _ _ _ (all .if1 .taken) (c .before .if2 .taken))
 
 returns-2 : tie.Need-returns-2 Inv-links μ-links
 returns-2 c =
     let all = c .before in
-    sym (all .before .links .inv .rest ∙ all-read _ _ _ _ _ _ _ (all .if1 .taken) (c .if2 .left))
+    sym (all .before .links .inv .rest ∙ all-read _ _ _ _ _ _ (all .if1 .taken) (c .if2 .left))
 
 returns-3 : tie.Need-returns-3 Inv-links μ-links
 returns-3 c =
     let at-link = c .before .before .before .before in
     c .refused2 .ensures
     ∙ sym (at-link .before .before .links .inv .rest
-    ∙ link-refused _ _ _ _ _ _ _ (due (at-link .before)) (at-link .read-link .ensures) _ _ (c .before .before .number .given .1))
+    ∙ link-refused _ _ _ _ _ _ (due (at-link .before)) (at-link .read-link .ensures) _ _ (c .before .before .number .given .1))
 
 pub read-links-spec : {M : Type 1} → statement M
 read-links-spec =
@@ -115,8 +117,8 @@ read-links-spec =
     array-write-high
     mul-weight
     array-write-weight
-    cast-low-before
-    cast-high-before
+    cast-t30
+    cast-t33
     add-k
     links-less
     links-again

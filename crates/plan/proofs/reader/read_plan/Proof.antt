@@ -2,7 +2,7 @@
 use mathlib.Core.Path.{sym, _∙_}
 use borrow.Author.Needs.{needs}
 use Rattle.plan.proofs.Readings.{node-count-unread, node-count-refused, node-count-read}
-use Rattle.plan.proofs.Tests.{few-nodes-counted}
+use Rattle.net.proofs.Tests.{passed, count-tells}
 use Rattle.plan.proofs.reader.read_plan.Statement.{statement}
 use Rattle.plan.proofs.reader.read_plan.Tie as tie
 
@@ -35,7 +35,7 @@ returns c =
     (sym (c .before .before .bad-node-count .ensures) ∙ c .before .if1 .taken))
 
 read-link-count-requires : tie.Need-read-link-count-requires
-read-link-count-requires c κs = few-nodes-counted _ (sym (c .before .bad-node-count .ensures) ∙ c .if1 .left)
+read-link-count-requires c κs = passed (count-tells _) (sym (c .before .bad-node-count .ensures) ∙ c .if1 .left) .1
 
 returns-2 : tie.Need-returns-2
 returns-2 c =
