@@ -9,6 +9,7 @@ pub mod Rounds
 pub mod Finished
 pub mod Restart
 pub mod Keys
+pub mod Twins
 pub mod Entries
 pub mod Walk
 pub mod Demand3

@@ -6,3 +6,4 @@ pub mod Set
 pub mod Demand3
 pub mod Arrival
 pub mod Later
+pub mod Twins
