@@ -1,6 +1,8 @@
 // The report program: a stored plan on standard input, the report on standard output.
 use libc::STDIN_FILENO;
-use net::end_at;
+use naming::print_failure;
+use net::Failure;
+use net::Link;
 use net::limit;
 use report::Line;
 use report::Lines;
@@ -40,9 +42,7 @@ fn print_links(low: &[u8], high: &[u8], lines: [Line; limit::LINKS + 1]) {
         if limit::LINKS < next {
             return;
         }
-        decimal(end_at(low, k));
-        text(b"-");
-        decimal(end_at(high, k));
+        print_failure(low, high, Failure::One(Link(k)));
         print_line(lines[next]);
         k = next;
     }
@@ -53,7 +53,8 @@ fn print_lines(n: usize, low: &[u8], high: &[u8], answer: Lines) {
     decimal(n);
     text(b" links ");
     decimal(low.len());
-    text(b"\nnone");
+    text(b"\n");
+    print_failure(low, high, Failure::Nothing);
     let lines = answer.lines;
     print_line(lines[0]);
     print_links(low, high, lines);

@@ -1,4 +1,5 @@
--- `nightplan::print_links` is safe and ends: the index stays within the low ends, and what is left of them falls; the test keeps the place of each line within the lines.
+-- `nightplan::print_links` is safe and ends: the index stays within the low ends, and what is left of them falls; the test
+-- keeps the place of each line within the lines.
 use borrow.Author.Needs.{needs}
 use Prim.Native.Nat.{_≤_, _-_}
 use lib.ListN.{length}
@@ -6,10 +7,10 @@ use Rattle.nightplan.proofs.print_links.Statement.{statement}
 use Rattle.nightplan.proofs.print_links.Tie as tie
 
 abbrev Inv-loop : tie.InvT-loop
-Inv-loop low high lines k₀ t7 k = k ≤ length low
+Inv-loop low high lines k₀ k = k ≤ length low
 
 abbrev μ-loop : tie.MeasureT-loop
-μ-loop low high lines k₀ t7 k = length low - k
+μ-loop low high lines k₀ k = length low - k
 
 loop-holds : tie.Need-loop-holds Inv-loop μ-loop
 loop-holds c = search needs
@@ -20,23 +21,8 @@ add-next c = search needs
 returns : tie.Need-returns Inv-loop μ-loop
 returns c = search needs
 
-end-at-requires : tie.Need-end-at-requires Inv-loop μ-loop
-end-at-requires c κs = search needs
-
-decimal-requires : tie.Need-decimal-requires Inv-loop μ-loop
-decimal-requires c κs = search needs
-
-slice-aggregate-text : tie.Need-slice-aggregate-text Inv-loop μ-loop
-slice-aggregate-text c = search needs
-
-text-requires : tie.Need-text-requires Inv-loop μ-loop
-text-requires c κs = search needs
-
-end-at-requires-2 : tie.Need-end-at-requires-2 Inv-loop μ-loop
-end-at-requires-2 c κs = search needs
-
-decimal-requires-2 : tie.Need-decimal-requires-2 Inv-loop μ-loop
-decimal-requires-2 c κs = search needs
+print-failure-requires : tie.Need-print-failure-requires Inv-loop μ-loop
+print-failure-requires c κs = search needs
 
 mul-print-line : tie.Need-mul-print-line Inv-loop μ-loop
 mul-print-line c = search needs
@@ -65,12 +51,7 @@ print-links-spec =
     loop-holds
     add-next
     returns
-    end-at-requires
-    decimal-requires
-    slice-aggregate-text
-    text-requires
-    end-at-requires-2
-    decimal-requires-2
+    print-failure-requires
     mul-print-line
     array-copy-out-print-line
     print-line-requires
