@@ -35,7 +35,7 @@ use Rattle.tables.specs.inner.Detours.{dearerOf, noted, nothingKept, keysFor, f
 use Rattle.tables.proofs.Tests.{both-true}
 use Rattle.walk.specs.Lent.{leaving, hopAt, tablesFor, allBelow, leadsOn, bytePasses, tablePasses, tablesPass}
 use Rattle.walk.proofs.EntriesPass.{passes-exactly}
-use Rattle.sheet.specs.Sheet.{Journey, courseIn, planA, squarePlan, pairPlan, chainPlan, gapTables, partedPlan}
+use Rattle.sheet.specs.Sheet.{Journey, courseIn, planA, squarePlan, pairPlan, chainPlan, gapTables, partedPlan, twinPlan, twinDetour}
 use Rattle.sheet.specs.Sheet.{Row, routes, keys, forwards, backwards, walks, walksOver, steps, stores, refuses, Holds}
 use Rattle.sheet.specs.Sheet.{Every, none, more, rows}
 use Rattle.sheet.proofs.Computed.{told, costBut, costAll, routed, keptBelow, keysOf, forwarded, backwarded, computed}
@@ -160,7 +160,7 @@ all-hold (r ∷ rest) fit same =
 
 pub bench-sheet : Every Holds rows
 unfolding rows allFit fits within given answered courseOver
-    planA squarePlan pairPlan chainPlan gapTables partedPlan
+    planA squarePlan pairPlan chainPlan gapTables partedPlan twinPlan twinDetour
     descends lighterTwin spanBefore badEnds badWeight linkFault linksFrom rowsDiffer badNodeCount checkNetwork
     link reverse byDirection tail head visits failedBy around stepBy endsBy crossing goesOn walkFrom walkOf byteOf
     setValue noLinks withLink hasLink isEmpty comesBefore meeting noCost hereCost isKnown before extended entryAt

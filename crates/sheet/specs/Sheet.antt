@@ -113,6 +113,15 @@ gapTables =
 unfoldable pub partedPlan : Rows
 partedPlan = record { nodes = 3; low = 0 ∷ []; high = 1 ∷ []; weight = 1 ∷ [] }
 
+-- two nodes, and two links between them of equal weight
+unfoldable pub twinPlan : Rows
+twinPlan = record { nodes = 2; low = 0 ∷ 0 ∷ []; high = 1 ∷ 1 ∷ []; weight = 1 ∷ 1 ∷ [] }
+
+-- two links 0-1, of weights 1 and 2, a link 1-2 of weight 1 and a detour 0-2 of weight 9; in order, 0-1, 0-1, 0-2, 1-2
+unfoldable pub twinDetour : Rows
+twinDetour =
+    record { nodes = 3; low = 0 ∷ 0 ∷ 0 ∷ 1 ∷ []; high = 1 ∷ 1 ∷ 2 ∷ 2 ∷ []; weight = 1 ∷ 2 ∷ 9 ∷ 1 ∷ [] }
+
 -- from s to d with one link failed, and with the report's hop limit, which no delivered packet of these networks uses up
 abbrev pub failing : ℕ → ℕ → ℕ → Journey
 failing link s d = record { failure = one-link link; source = s; destination = d; limit = reportHops }
@@ -146,6 +155,24 @@ rows =
     -- which the walk from 0 cannot set out for
     ∷ steps partedPlan 0 2 nothing
     ∷ walks partedPlan (record { failure = no-link; source = 0; destination = 2; limit = reportHops }) (0 ∷ []) unrouted
+    -- "equal pairs stand in ascending order of weight, equal weights allowed" (document 02, L5): of equal twins the lower is the entry
+    ∷ routes twinPlan 0 1 0
+    -- "backwarding entries take out that link alone": the sibling is left, and a packet takes it when the link has failed
+    ∷ backwards twinPlan 0 1 1
+    ∷ walks twinPlan (failing 0 0 1) (0 ∷ 1 ∷ []) delivered
+    -- "Key links ask that the interface's own link, taken backwards, is the routing entry, and that the path crosses that link": 1 to 0
+    -- over link 0 has the key link 1-2 for 2, and over its twin none, so that the one forwards to 0-2 and the other sends back
+    ∷ keys twinDetour 1 2 8
+    ∷ keys twinDetour 3 2 0
+    ∷ forwards twinDetour 1 2 2
+    ∷ forwards twinDetour 3 2 0
+    -- "Traces still show nodes": 1-2 failed, and one of the twins failed
+    ∷ walks twinDetour (failing 3 0 2) (0 ∷ 1 ∷ 0 ∷ 2 ∷ []) delivered
+    ∷ walks twinDetour (failing 0 0 2) (0 ∷ 1 ∷ 2 ∷ []) delivered
+    -- "Refusal 7 is then given only for a descending pair, or an equal pair with a smaller weight; for parallel links this last check
+    -- comes after 6": 0-1 with weight 5, then 0-1 with weight 4 and with weight 0
+    ∷ refuses (0x02 ∷ 0x02 ∷ 0x00 ∷ 0x01 ∷ 0x05 ∷ 0x00 ∷ 0x01 ∷ 0x04 ∷ []) 7 5
+    ∷ refuses (0x02 ∷ 0x02 ∷ 0x00 ∷ 0x01 ∷ 0x05 ∷ 0x00 ∷ 0x01 ∷ 0x00 ∷ []) 6 7
     -- "300 is stored as AC 02. 65,535 is FF FF 03; 80 80 04 as weight is refusal 6; 80 00 is 2." The weight stands in a plan of two
     -- nodes and one link, at byte 4; 80 00 stands as a node count.
     ∷ stores 300 (0xAC ∷ 0x02 ∷ [])
