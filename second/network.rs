@@ -5,7 +5,7 @@ pub const MOST_LINKS: usize = 64;
 pub const MOST_WEIGHT: u32 = 65_535;
 
 /// Document 01's refusal number with its place.
-#[derive(Clone, Copy)]
+#[derive(Clone, Copy, PartialEq)]
 pub struct Refusal {
     pub number: u8,
     pub place: usize,
@@ -46,7 +46,7 @@ pub struct Network {
 }
 
 impl Network {
-    /// Refusals 9, 3, 4, then link by link 5, 7, 6.
+    /// Refusals 9, 3, 4, then link by link 5, 7, 6 and, for parallel links, 7.
     pub fn check(&self) -> Result<(), Refusal> {
         let links = self.lows.len();
         if self.highs.len() != links || self.weights.len() != links {
@@ -75,11 +75,16 @@ impl Network {
             return Some(5);
         }
         // Pairs compare low end first, then high end.
-        if k > 0 && pair <= (self.lows[k - 1], self.highs[k - 1]) {
+        let before = k.checked_sub(1).map(|b| (self.lows[b], self.highs[b]));
+        if before.is_some_and(|before| pair < before) {
             return Some(7);
         }
         if !(1..=MOST_WEIGHT).contains(&self.weights[k]) {
             return Some(6);
+        }
+        // Request L5: parallel links by weight, of which equal ones may follow.
+        if before == Some(pair) && self.weights[k] < self.weights[k - 1] {
+            return Some(7);
         }
         None
     }
@@ -88,12 +93,12 @@ impl Network {
     pub fn graph(&self) -> Result<Graph, Refusal> {
         self.check()?;
         let nodes = self.nodes as usize;
-        let mut graph = Graph { nodes, links: Vec::new(), doors: vec![vec![None; nodes]; nodes] };
+        let mut graph = Graph { nodes, links: Vec::new(), doors: vec![Vec::new(); nodes] };
         for (k, &weight) in self.weights.iter().enumerate() {
             let (low, high) = (usize::from(self.lows[k]), usize::from(self.highs[k]));
             graph.links.push(Link { low, high, weight });
-            graph.doors[low][high] = Some(2 * k);
-            graph.doors[high][low] = Some(2 * k + 1);
+            graph.doors[low].push(2 * k);
+            graph.doors[high].push(2 * k + 1);
         }
         Ok(graph)
     }
@@ -110,8 +115,8 @@ pub struct Link {
 pub struct Graph {
     pub nodes: usize,
     pub links: Vec<Link>,
-    /// The interface that leads from one node straight to another.
-    doors: Vec<Vec<Option<usize>>>,
+    /// The interfaces that leave each node.
+    doors: Vec<Vec<usize>>,
 }
 
 impl Graph {
@@ -129,13 +134,25 @@ impl Graph {
         }
     }
 
-    /// None if no link joins the two, or if either is no node at all: an
-    /// entry of a lent table may be any byte.
-    pub fn interface(&self, from: usize, to: usize) -> Option<usize> {
-        *self.doors.get(from)?.get(to)?
+    pub fn leaving(&self, node: usize) -> &[usize] {
+        &self.doors[node]
     }
 
-    pub fn link(&self, one: usize, other: usize) -> Option<usize> {
-        self.interface(one, other).map(|interface| interface / 2)
+    /// The interface that leads from a node over a link. None if the link is
+    /// not at that node, or is no link at all: an entry of a lent table may be
+    /// any byte.
+    pub fn over(&self, node: usize, link: usize) -> Option<usize> {
+        let ends = self.links.get(link)?;
+        let towards_high = (ends.low == node).then_some(2 * link);
+        towards_high.or((ends.high == node).then_some(2 * link + 1))
+    }
+
+    /// The links that join the same two nodes as this one, itself among them,
+    /// as a set.
+    pub fn pair(&self, link: usize) -> u64 {
+        let ends = |link: &Link| (link.low, link.high);
+        let own = ends(&self.links[link]);
+        let alike = self.links.iter().enumerate().filter(|(_, other)| ends(other) == own);
+        alike.fold(0, |set, (number, _)| set | 1 << number)
     }
 }

@@ -5,45 +5,52 @@
 use crate::network::Graph;
 use std::collections::HashMap;
 
-/// The nodes of a path, first to last. At most one link joins a pair, so the
-/// nodes tell the links as well.
+/// The interfaces that a path leads over, first to last: its links, each in the
+/// direction in which it is crossed. The path of no links has none.
 pub type Chain = Vec<usize>;
 
 /// Finds, from one node, the best chain to each node, or none where there is
 /// no path. The links in the set `out` are taken out first.
 pub type Method = fn(graph: &Graph, out: u64, from: usize) -> Vec<Option<Chain>>;
 
-fn usable(graph: &Graph, out: u64, from: usize, to: usize) -> Option<usize> {
-    graph.link(from, to).filter(|link| out >> link & 1 == 0)
+/// The interfaces that leave a node, without the links in `out`.
+fn usable(graph: &Graph, out: u64, node: usize) -> impl Iterator<Item = usize> + '_ {
+    let left_in = move |interface: &usize| out >> (interface / 2) & 1 == 0;
+    graph.leaving(node).iter().copied().filter(left_in)
 }
 
-/// The links of a chain, which must be a path of this network.
-fn links_of(graph: &Graph, chain: &[usize]) -> Vec<usize> {
-    chain.windows(2).map(|hop| graph.link(hop[0], hop[1]).expect("a link")).collect()
+fn links_of(chain: &[usize]) -> Vec<usize> {
+    chain.iter().map(|interface| interface / 2).collect()
 }
 
 pub fn sum_of(graph: &Graph, chain: &[usize]) -> u64 {
-    links_of(graph, chain).iter().map(|&link| u64::from(graph.links[link].weight)).sum()
+    links_of(chain).iter().map(|&link| u64::from(graph.links[link].weight)).sum()
 }
 
-pub fn set_of(graph: &Graph, chain: &[usize]) -> u64 {
-    links_of(graph, chain).iter().fold(0, |set, &link| set | 1 << link)
+pub fn set_of(chain: &[usize]) -> u64 {
+    links_of(chain).iter().fold(0, |set, &link| set | 1 << link)
+}
+
+/// The nodes of a chain from a node on, that node first.
+pub fn nodes_of(graph: &Graph, from: usize, chain: &[usize]) -> Vec<usize> {
+    std::iter::once(from).chain(chain.iter().map(|&interface| graph.ends(interface).1)).collect()
 }
 
 // ------------------------------------------------------------- by trial
 
-/// Every path from a node, the one of no links included. Each longer path is
-/// a shorter one with one node more, so the list grows until nothing can be
-/// put on. Meant for up to 8 nodes or so.
-pub fn every_chain(graph: &Graph, out: u64, from: usize) -> Vec<Chain> {
-    let mut all = vec![vec![from]];
+/// Every path from a node, the one of no links included, with the node where it
+/// ends. Each longer path is a shorter one with one link more, so the list grows
+/// until nothing can be put on. Meant for up to 8 nodes or so.
+pub fn every_chain(graph: &Graph, out: u64, from: usize) -> Vec<(Chain, usize)> {
+    let mut all = vec![(vec![], from)];
     let mut next = 0;
     while next < all.len() {
-        let chain = all[next].clone();
-        let last = chain[chain.len() - 1];
-        for to in 0..graph.nodes {
-            if !chain.contains(&to) && usable(graph, out, last, to).is_some() {
-                all.push([&chain[..], &[to]].concat());
+        let (chain, last) = all[next].clone();
+        let visited = nodes_of(graph, from, &chain);
+        for interface in usable(graph, out, last) {
+            let to = graph.ends(interface).1;
+            if !visited.contains(&to) {
+                all.push(([&chain[..], &[interface]].concat(), to));
             }
         }
         next += 1;
@@ -59,7 +66,7 @@ fn is_better(graph: &Graph, one: &[usize], other: &[usize]) -> bool {
     if one_sum != other_sum {
         return one_sum < other_sum;
     }
-    let (one, other) = (links_of(graph, one), links_of(graph, other));
+    let (one, other) = (links_of(one), links_of(other));
     let on_only_one = |link: &usize| one.contains(link) != other.contains(link);
     match (0..graph.links.len()).filter(on_only_one).max() {
         Some(highest) => !one.contains(&highest),
@@ -69,8 +76,8 @@ fn is_better(graph: &Graph, one: &[usize], other: &[usize]) -> bool {
 
 pub fn by_trial(graph: &Graph, out: u64, from: usize) -> Vec<Option<Chain>> {
     let mut best: Vec<Option<Chain>> = vec![None; graph.nodes];
-    for chain in every_chain(graph, out, from) {
-        let known = &mut best[chain[chain.len() - 1]];
+    for (chain, to) in every_chain(graph, out, from) {
+        let known = &mut best[to];
         if known.as_ref().is_none_or(|known| is_better(graph, &chain, known)) {
             *known = Some(chain);
         }
@@ -91,26 +98,25 @@ fn toll(graph: &Graph, link: usize) -> u128 {
 
 pub fn by_tree(graph: &Graph, out: u64, from: usize) -> Vec<Option<Chain>> {
     let mut best: Vec<Option<Chain>> = vec![None; graph.nodes];
-    // The least cost found so far, and the node before on that way.
-    let mut reached: Vec<Option<(u128, usize)>> = vec![None; graph.nodes];
-    reached[from] = Some((0, from));
+    // The least cost found so far, and the last interface on that way; only
+    // the way to the node itself has none.
+    let mut reached: Vec<Option<(u128, Option<usize>)>> = vec![None; graph.nodes];
+    reached[from] = Some((0, None));
     loop {
         let open = (0..graph.nodes).filter(|&node| best[node].is_none());
         let nearest = open.filter_map(|node| reached[node].map(|way| (way, node))).min();
-        let Some(((cost, before), node)) = nearest else {
+        let Some(((cost, last), node)) = nearest else {
             return best;
         };
-        // The node before has its chain already; only the first has none.
-        let chain = best[before].as_deref().unwrap_or(&[]);
-        best[node] = Some([chain, &[node]].concat());
-        for (to, way) in reached.iter_mut().enumerate() {
-            let Some(link) = usable(graph, out, node, to) else {
-                continue;
-            };
+        // The node before has its chain already.
+        let before = last.and_then(|interface| best[graph.ends(interface).0].as_deref());
+        best[node] = Some([before.unwrap_or(&[]), last.as_slice()].concat());
+        for interface in usable(graph, out, node) {
+            let way = &mut reached[graph.ends(interface).1];
             // A node with a chain never changes: its cost is at most `cost`.
-            let longer = cost + toll(graph, link);
+            let longer = cost + toll(graph, interface / 2);
             if way.is_none_or(|(known, _)| longer < known) {
-                *way = Some((longer, node));
+                *way = Some((longer, Some(interface)));
             }
         }
     }

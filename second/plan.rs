@@ -67,7 +67,8 @@ pub fn read(bytes: &[u8]) -> Result<Network, Refusal> {
         highs: Vec::new(),
         weights: Vec::new(),
     };
-    let mut before: Option<(u32, u32)> = None;
+    // The pair and the weight of the link before.
+    let mut before: Option<((u32, u32), u32)> = None;
     for _ in 0..links.value {
         let low = reader.number()?;
         if low.value >= nodes.value {
@@ -80,16 +81,21 @@ pub fn read(bytes: &[u8]) -> Result<Network, Refusal> {
             return Err(difference.refused(5));
         }
         // The order is a fault of the link, so it stands where the link
-        // begins, and it comes before the weight is even read.
+        // begins. That of pairs comes before the weight is even read, that of
+        // parallel links (request L5) once the weight is known to be one.
         let pair = (low.value, high);
-        if before.is_some_and(|earlier| pair <= earlier) {
+        if before.is_some_and(|(earlier, _)| pair < earlier) {
             return Err(low.refused(7));
         }
-        before = Some(pair);
         let weight = reader.number()?;
         if weight.value == 0 || weight.value > MOST_WEIGHT {
             return Err(weight.refused(6));
         }
+        let link = (pair, weight.value);
+        if before.is_some_and(|earlier| link < earlier) {
+            return Err(low.refused(7));
+        }
+        before = Some(link);
         // Both ends are nodes by now, that is below 32.
         network.lows.push(low.value as u8);
         network.highs.push(high as u8);

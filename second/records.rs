@@ -65,11 +65,11 @@ pub fn rooms(record: &mut Record) -> Result<(Network, [Vec<u8>; 3]), String> {
 
 /// A record of kind S.
 pub struct LentStep<'a> {
-    network: Network,
-    tables: Lent<'a>,
+    pub network: Network,
+    pub tables: Lent<'a>,
     pub asked: Asked,
-    destination: u64,
-    failure: Failure,
+    pub destination: u64,
+    pub failure: Failure,
 }
 
 impl<'a> LentStep<'a> {
@@ -95,10 +95,10 @@ impl<'a> LentStep<'a> {
 pub struct LentWalk<'a> {
     pub network: Network,
     pub tables: Lent<'a>,
-    source: u64,
+    pub source: u64,
     pub destination: u64,
-    failure: Failure,
-    limit: u8,
+    pub failure: Failure,
+    pub limit: u8,
     trace: Vec<u8>,
 }
 
@@ -196,7 +196,7 @@ fn all_line(record: &mut Record) -> Result<String, String> {
     };
     let built = tables::build(&mut Best::new(&graph, by_tree));
     let mut hash = Fnv::new();
-    for failed in std::iter::once(None).chain((0..graph.links.len()).map(Some)) {
+    for failed in std::iter::once(0).chain((0..graph.links.len()).map(|link| 1 << link)) {
         for source in 0..graph.nodes {
             for destination in 0..graph.nodes {
                 let limit = u8::MAX;

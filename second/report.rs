@@ -1,9 +1,16 @@
 //! Sub-command `report`: what `nightplan` prints for a stored plan.
 
-use crate::network::{Network, Refusal};
+use crate::network::{Graph, Network, Refusal};
 use crate::paths::{by_tree, Best};
 use crate::{plan, tables, walk};
 use std::fmt::Write;
+
+/// A link by its ends; with its number if these do not tell it from another.
+fn name(graph: &Graph, number: usize) -> String {
+    let link = &graph.links[number];
+    let ends = format!("{}-{}", link.low, link.high);
+    if graph.pair(number).count_ones() > 1 { format!("{ends}/{number}") } else { ends }
+}
 
 fn lines(network: &Network) -> Result<String, Refusal> {
     let graph = network.graph()?;
@@ -11,12 +18,9 @@ fn lines(network: &Network) -> Result<String, Refusal> {
     let mut text = format!("nodes {} links {}\n", graph.nodes, graph.links.len());
     let (mut delivered, mut dropped) = (0, 0);
 
-    let none = ("none".to_string(), None);
-    let named = |(number, link): (usize, &crate::network::Link)| {
-        (format!("{}-{}", link.low, link.high), Some(number))
-    };
-    let failures = std::iter::once(none).chain(graph.links.iter().enumerate().map(named));
-    for (name, failed) in failures {
+    let none = ("none".to_string(), 0);
+    let failures = (0..graph.links.len()).map(|link| (name(&graph, link), 1 << link));
+    for (name, failed) in std::iter::once(none).chain(failures) {
         let figures = walk::count(&graph, built.lent(), failed);
         delivered += figures.delivered;
         dropped += figures.dropped;

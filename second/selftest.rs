@@ -2,23 +2,28 @@
 //! document 01 says of it, before it is held against the proved program.
 //!
 //! Five parts: the bench sheet, the report that document 01 prints, and rows
-//! on arrivals that find nothing; batches whose lengths are wrong, which must
-//! not pass, and batches that cannot tell rules apart; the two ways to best
-//! paths against each other on small networks full of equal paths; demand 3 on
-//! networks of every size; and on the same ones, whatever links have failed,
-//! that every arrival finds an entry. Nothing is read, and every run does the
-//! same. It prints how often each thing was checked, and up to 20 faults.
+//! on arrivals that find nothing and on parallel links; batches whose lengths
+//! are wrong, which must not pass, and batches that cannot tell rules apart; the
+//! two ways to best paths against each other on small networks full of equal
+//! paths; demand 3 on networks of every size; and on the same ones, whatever
+//! links have failed, that every arrival finds an entry. Two of three networks
+//! may have parallel links. Nothing is read, and every run does the same. It
+//! prints how often each thing was checked, and up to 20 faults.
 
-use crate::network::{Graph, Network};
-use crate::paths::{by_tree, by_trial, every_chain, set_of, sum_of, Best, Method};
+mod parallel;
+
+use crate::network::{Graph, Network, Refusal};
+use crate::paths::{by_tree, by_trial, every_chain, nodes_of, set_of, sum_of, Best, Method};
 use crate::tables::{self, Lent, Tables, NO_PATH};
 use crate::walk::{self, Asked, Failure, Step, Walk};
 use crate::{plan, records, report, rules};
-use std::collections::BTreeMap;
 
 const MOST_TOLD: usize = 20;
 const SMALL_NETWORKS: usize = 1500;
 const WALKED_NETWORKS: usize = 400;
+/// How many parallel links networks have, in turn: none, or another beside one
+/// link in so many.
+const PARALLEL: [Option<usize>; 3] = [None, Some(4), Some(2)];
 
 // -------------------------------------------------------------- counting
 
@@ -107,8 +112,10 @@ impl Built {
         self
     }
 
+    /// Of the first link from one node to the other.
     fn interface(&self, from: usize, to: usize) -> usize {
-        self.graph.interface(from, to).expect("neighbours")
+        let mut all = 0..self.graph.interfaces();
+        all.find(|&interface| self.graph.ends(interface) == (from, to)).expect("neighbours")
     }
 
     fn routing(&self, i: usize, d: usize) -> u8 {
@@ -134,25 +141,32 @@ impl Built {
 
     fn failure(&self, failed: Option<(usize, usize)>) -> Failure {
         match failed {
-            Some((low, high)) => Failure::Link(self.graph.link(low, high).expect("a link") as u64),
+            Some((low, high)) => Failure::Link(self.interface(low, high) as u64 / 2),
             None => Failure::None,
         }
     }
 
     /// Ending and trace, asked through the entry that checks everything.
     fn walk(&self, source: u64, d: u64, failed: Option<(usize, usize)>, limit: u8) -> (u8, Vec<u8>) {
+        self.walk_with(source, d, self.failure(failed), limit)
+    }
+
+    fn walk_with(&self, source: u64, d: u64, failure: Failure, limit: u8) -> (u8, Vec<u8>) {
         let mut trace = vec![0xEE; usize::from(limit) + 1];
-        let (lent, failure) = (self.tables.lent(), self.failure(failed));
+        let lent = self.tables.lent();
         match walk::walk(&self.network, lent, source, d, failure, limit, &mut trace) {
             Ok(walk) => (walk.ending, trace[..=walk.hops()].to_vec()),
             Err(refusal) => panic!("a walk of these rows: refusal {}", refusal.number),
         }
     }
 
+    fn step(&self, asked: Asked, d: u64, failure: Failure) -> Result<Step, Refusal> {
+        walk::step(&self.network, self.tables.lent(), asked, d, failure)
+    }
+
     /// Whether a step says that there is nothing to follow, asked the same way.
     fn nothing(&self, asked: Asked, d: u64, failed: Option<(usize, usize)>) -> bool {
-        let step = walk::step(&self.network, self.tables.lent(), asked, d, self.failure(failed));
-        matches!(step, Ok(Step::Nothing))
+        matches!(self.step(asked, d, self.failure(failed)), Ok(Step::Nothing))
     }
 
     fn arrival(&self, j: usize, i: usize) -> Asked {
@@ -181,11 +195,11 @@ fn bench_sheet(tally: &mut Tally) {
     };
     for (way, method) in WAYS {
         let a = Built::new(&PLAN_A, method);
-        row(&format!("routing, {way}"), a.routing(0, 3) == 1);
+        row(&format!("routing, {way}"), a.routing(0, 3) == 0);
         row(&format!("key links, {way}"), a.keys(1, 0, 3) == 24);
-        row(&format!("forwarding 1 to 0, {way}"), a.forwarding(1, 0, 3) == 3);
-        row(&format!("forwarding 2 to 0, {way}"), a.forwarding(2, 0, 3) == 1);
-        row(&format!("backwarding 0 to 1, {way}"), a.backwarding(0, 1, 3) == 2);
+        row(&format!("forwarding 1 to 0, {way}"), a.forwarding(1, 0, 3) == 2);
+        row(&format!("forwarding 2 to 0, {way}"), a.forwarding(2, 0, 3) == 0);
+        row(&format!("backwarding 0 to 1, {way}"), a.backwarding(0, 1, 3) == 1);
         row(&format!("backwarding 1 to 0, {way}"), a.backwarding(1, 0, 3) == 255);
         row(&format!("1-2 failed, {way}"), a.walk(0, 3, Some((1, 2)), 64) == (0, vec![0, 1, 0, 3]));
         let long = vec![0, 1, 2, 1, 0, 3];
@@ -194,7 +208,7 @@ fn bench_sheet(tally: &mut Tally) {
         row(&format!("no way to go, {way}"), a.walk(2, 2, None, 0) == (0, vec![2]));
 
         let square = Built::new(&SQUARE, method);
-        row(&format!("square, {way}"), square.routing(0, 3) == 1);
+        row(&format!("square, {way}"), square.routing(0, 3) == 0);
         let pair = Built::new(&[2, 1, 0, 1, 1], method);
         row(&format!("two nodes, {way}"), pair.walk(0, 1, Some((0, 1)), 64) == (2, vec![0]));
     }
@@ -223,15 +237,15 @@ const APART: [u8; 5] = [3, 1, 0, 1, 1];
 
 /// The built tables of APART. The batch lends the same bytes, as its generator
 /// can build none: change them there too.
-const APART_ROUTING: [u8; 9] = [254, 1, 255, 0, 254, 255, 255, 255, 254];
-const APART_FORWARDING: [u8; 6] = [0, 254, 255, 254, 1, 255];
+const APART_ROUTING: [u8; 9] = [254, 0, 255, 0, 254, 255, 255, 255, 254];
+const APART_FORWARDING: [u8; 6] = [0, 254, 255, 254, 0, 255];
 const APART_BACKWARDING: [u8; 6] = [254, 255, 255, 255, 254, 255];
 
 /// Tells one row: its name, and whether it holds.
 type Row<'a> = &'a mut dyn FnMut(&str, bool);
 
 fn gap_on_arrival(row: Row, chain: Built) {
-    row("chain, routing", chain.routing(0, 2) == 1);
+    row("chain, routing", chain.routing(0, 2) == 0);
     row("chain, as built", chain.walk(0, 2, None, 64) == (0, vec![0, 1, 2]));
     let mut chain = chain.with_gap(0, 1, 2);
     row("gap", chain.walk(0, 2, None, 64) == (2, vec![0, 1]));
@@ -249,7 +263,7 @@ fn gap_on_arrival(row: Row, chain: Built) {
     row("gap at the start, limit 0", chain.walk(0, 2, None, 0) == (3, vec![0]));
 }
 
-/// Node 1 cannot send to 2 and turns the packet back to 0.
+/// Node 1 cannot send to 2 and turns the packet back to 0, over link 0.
 fn gap_after_turning(row: Row, chain: Built) {
     let mut chain = chain.with_gap(1, 0, 2);
     let turn = chain.place(1, 2, 2);
@@ -324,7 +338,10 @@ fn lent_fields(tables: &Tables) -> Vec<u8> {
 }
 
 const NONE_FAILED: [u8; 9] = [0; 9];
-const LINK_1_FAILED: [u8; 9] = [1, 1, 0, 0, 0, 0, 0, 0, 0];
+
+fn link_failed(link: u8) -> [u8; 9] {
+    [1, link, 0, 0, 0, 0, 0, 0, 0]
+}
 
 /// A walk from 0 to 2, with room for so many nodes.
 fn walk_record(built: &Built, failure: [u8; 9], limit: u8, trace: u8) -> Vec<u8> {
@@ -334,9 +351,9 @@ fn walk_record(built: &Built, failure: [u8; 9], limit: u8, trace: u8) -> Vec<u8>
 }
 
 /// A step for 2, at a start node (0) or on arrival over an interface (1).
-fn step_record(built: &Built, kind: u8, asked: u64) -> Vec<u8> {
+fn step_record(built: &Built, kind: u8, asked: u64, failure: [u8; 9]) -> Vec<u8> {
     let numbers = [asked, 2].map(u64::to_le_bytes).concat();
-    let rest: [&[u8]; 4] = [&lent_fields(&built.tables), &[kind], &numbers, &NONE_FAILED];
+    let rest: [&[u8]; 4] = [&lent_fields(&built.tables), &[kind], &numbers, &failure];
     network_record(b'S', &built.network, &rest)
 }
 
@@ -344,69 +361,115 @@ fn other_rules(tally: &mut Tally) {
     for (way, method) in WAYS {
         let a = Built::new(&PLAN_A, method);
         let others = rules::others(&mut Best::new(&a.graph, method));
-        // Node 1, which cannot send to 0 for 3, would send to 2 by either.
+        // Node 1, which cannot send to 0 for 3, would send over link 3 by either.
         let place = a.place(1, 0, 3);
-        let holds = rules::count(&others, &a.tables.backwarding) == [4, 4, 1]
-            && [others.own_link_alone[place], others.nearest_alone[place]] == [2, 2];
+        let holds = rules::count(&others, &a.tables.backwarding) == [4, 4, 1, 0, 0, 0]
+            && [others.own_link_alone[place], others.nearest_alone[place]] == [3, 3];
         tally.check("other rules on plan A", holds, || way.to_string());
     }
 }
 
-/// Each needs a record of tables, of a walk and of a step that show the rules.
+/// A batch that tells all rules apart needs all of these.
+#[derive(Clone)]
+struct Telling {
+    /// Tables of plan A, which has no parallel links, and of a network that has.
+    a: Vec<u8>,
+    twins: Vec<u8>,
+    /// A walk and a step that find nothing on arrival.
+    walk: Vec<u8>,
+    step: Vec<u8>,
+    /// A walk and a step that would go elsewhere if siblings failed too.
+    twin_walk: Vec<u8>,
+    twin_step: Vec<u8>,
+}
+
+impl Telling {
+    fn all() -> Telling {
+        let gap = Built::new(&CHAIN, by_tree).with_gap(0, 1, 2);
+        let twins = Built::new(&parallel::TWINS, by_tree);
+        Telling {
+            a: tables_record(&Built::new(&PLAN_A, by_tree).network, 40),
+            twins: tables_record(&twins.network, 40),
+            walk: walk_record(&gap, NONE_FAILED, 64, 65),
+            step: step_record(&gap, 1, 0, NONE_FAILED),
+            twin_walk: walk_record(&twins, link_failed(4), 64, 65),
+            twin_step: step_record(&twins, 0, 1, link_failed(4)),
+        }
+    }
+
+    fn batch(&self) -> Vec<u8> {
+        let Telling { a, twins, walk, step, twin_walk, twin_step } = self;
+        [a, twins, walk, step, twin_walk, twin_step].map(Vec::as_slice).concat()
+    }
+}
+
 fn telling_batches(tally: &mut Tally) {
-    let (a, square) = (Built::new(&PLAN_A, by_tree).network, Built::new(&SQUARE, by_tree).network);
+    let square = tables_record(&Built::new(&SQUARE, by_tree).network, 40);
     let (chain, apart) = (Built::new(&CHAIN, by_tree), Built::new(&APART, by_tree));
     let gap = Built::new(&CHAIN, by_tree).with_gap(0, 1, 2);
+    let twins = Built::new(&parallel::TWINS, by_tree);
     let none = Vec::new();
-    let tables = tables_record(&a, 40);
-    let walk = walk_record(&gap, NONE_FAILED, 64, 65);
-    let step = step_record(&gap, 1, 0);
-    let square = tables_record(&square, 40);
-    let both = [&square[..], &tables].concat();
-    let none_at_start = walk_record(&apart, NONE_FAILED, 64, 65);
-    let at_failed_link = walk_record(&chain, LINK_1_FAILED, 64, 65);
+    let all = Telling::all();
+    let with_a = |a: Vec<u8>| Telling { a, ..all.clone() };
+    let with_twins = |twins: Vec<u8>| Telling { twins, ..all.clone() };
+    let with_walk = |walk: Vec<u8>| Telling { walk, ..all.clone() };
+    let with_step = |step: Vec<u8>| Telling { step, ..all.clone() };
+    let with_twin_walk = |twin_walk: Vec<u8>| Telling { twin_walk, ..all.clone() };
+    let with_twin_step = |twin_step: Vec<u8>| Telling { twin_step, ..all.clone() };
     for (name, batch, tells) in [
-        ("plan A and a gap", [&tables, &walk, &step], true),
-        ("the square, plan A and a gap", [&both, &walk, &step], true),
-        ("no tables", [&none, &walk, &step], false),
-        ("the square, where no interface has two key links", [&square, &walk, &step], false),
-        ("plan A without room", [&tables_record(&a, 39), &walk, &step], false),
-        ("no walk", [&tables, &none, &step], false),
-        ("a walk delivered", [&tables, &walk_record(&chain, NONE_FAILED, 64, 65), &step], false),
-        ("a walk with no entry at the start", [&tables, &none_at_start, &step], false),
-        ("a walk dropped at the failed link", [&tables, &at_failed_link, &step], false),
-        ("a walk with its limit used up", [&tables, &walk_record(&gap, NONE_FAILED, 1, 2), &step], false),
-        ("a walk with a short trace", [&tables, &walk_record(&gap, NONE_FAILED, 64, 64), &step], false),
-        ("no step", [&tables, &walk, &none], false),
-        ("a step with an entry", [&tables, &walk, &step_record(&chain, 1, 0)], false),
-        ("a step at the start", [&tables, &walk, &step_record(&apart, 0, 0)], false),
-        ("a step over no interface", [&tables, &walk, &step_record(&gap, 1, 4)], false),
-        ("no records", [&none, &none, &none], false),
+        ("plan A, twins, gaps", all.clone(), true),
+        ("the square too", with_a([&square[..], &all.a].concat()), true),
+        ("no tables of plan A", with_a(none.clone()), false),
+        ("the square, where no interface has two key links", with_a(square.clone()), false),
+        ("plan A without room", with_a(tables_record(&Built::new(&PLAN_A, by_tree).network, 39)), false),
+        ("no tables of twins", with_twins(none.clone()), false),
+        ("the square in place of twins", with_twins(square), false),
+        ("twins without room", with_twins(tables_record(&twins.network, 29)), false),
+        ("no walk", with_walk(none.clone()), false),
+        ("a walk delivered", with_walk(walk_record(&chain, NONE_FAILED, 64, 65)), false),
+        ("no entry at the start", with_walk(walk_record(&apart, NONE_FAILED, 64, 65)), false),
+        ("dropped at the failed link", with_walk(walk_record(&chain, link_failed(1), 64, 65)), false),
+        ("a walk with its limit used up", with_walk(walk_record(&gap, NONE_FAILED, 1, 2)), false),
+        ("a walk with a short trace", with_walk(walk_record(&gap, NONE_FAILED, 64, 64)), false),
+        ("no step", with_step(none.clone()), false),
+        ("a step with an entry", with_step(step_record(&chain, 1, 0, NONE_FAILED)), false),
+        ("a step at the start", with_step(step_record(&apart, 0, 0, NONE_FAILED)), false),
+        ("a step over no interface", with_step(step_record(&gap, 1, 4, NONE_FAILED)), false),
+        ("no walk past a failed twin", with_twin_walk(none.clone()), false),
+        ("a walk with no failed twin", with_twin_walk(walk_record(&twins, NONE_FAILED, 64, 65)), false),
+        ("a walk at the failed twin", with_twin_walk(walk_record(&twins, link_failed(3), 64, 65)), false),
+        ("no step past a failed twin", with_twin_step(none.clone()), false),
+        ("a step at the failed twin", with_twin_step(step_record(&twins, 0, 1, link_failed(3))), false),
     ] {
-        let told = rules::run(&batch.map(Vec::as_slice).concat(), &mut std::io::sink());
+        let told = rules::run(&batch.batch(), &mut std::io::sink());
         tally.check("batches that tell the rules apart", told == Ok(tells), || name.to_string());
     }
+    let told = rules::run(&[], &mut std::io::sink());
+    tally.check("batches that tell the rules apart", told == Ok(false), || "no records".to_string());
 }
 
 /// A network counts once, and refused records do not.
 fn counts_of_rules(tally: &mut Tally) {
     let gap = Built::new(&CHAIN, by_tree).with_gap(0, 1, 2);
+    let all = Telling::all();
     let batch = [
-        tables_record(&Built::new(&PLAN_A, by_tree).network, 40).repeat(2),
-        walk_record(&gap, NONE_FAILED, 64, 65),
+        all.batch(),
+        all.a,
+        all.twins,
         walk_record(&gap, NONE_FAILED, 1, 2),
         walk_record(&gap, NONE_FAILED, 64, 64),
-        step_record(&gap, 1, 0),
-        step_record(&gap, 0, 0),
-        step_record(&gap, 1, 4),
+        step_record(&gap, 0, 0, NONE_FAILED),
+        step_record(&gap, 1, 4, NONE_FAILED),
     ];
     let mut told = Vec::new();
     let told_all = rules::run(&batch.concat(), &mut told) == Ok(true);
     let told = String::from_utf8_lossy(&told);
     for line in [
-        "rules: 40 backwarding entries of 1 networks",
-        "rules: 1 of 2 walks find no entry on arrival",
-        "rules: 1 of 2 steps are asked on an arrival and find nothing to follow",
+        "rules: 70 backwarding entries of 2 networks",
+        "rules: 1 of 3 walks find no entry on arrival",
+        "rules: 1 of 3 steps are asked on an arrival and find nothing to follow",
+        "rules: 1 of 3 walks would be others if a failed link failed with its siblings",
+        "rules: 1 of 3 steps would be others if a failed link failed with its siblings",
     ] {
         let holds = told_all && told.lines().any(|other| other == line);
         tally.check("lines that count for the rules", holds, || line.to_string());
@@ -431,15 +494,24 @@ impl Chance {
 
 /// A network of so many nodes and about so many links. Half of them start
 /// from a tree over all nodes; the others often fall apart. Small weights
-/// make equal paths.
-fn draw(chance: &mut Chance, nodes: usize, links: usize) -> Network {
-    let mut pairs: BTreeMap<(u8, u8), u32> = BTreeMap::new();
+/// make equal paths. Parallel links come by chance, and one link in so many
+/// gets another put beside one that is there, mostly dearer, so that it can pay
+/// to turn back first.
+fn draw(chance: &mut Chance, nodes: usize, links: usize, parallel: Option<usize>) -> Network {
+    let mut all: Vec<(u8, u8, u32)> = Vec::new();
     let most_weight = [1, 2, 3, 9, 65_535][chance.below(5)];
     let mut join = |chance: &mut Chance, one: usize, other: usize| {
-        let pair = (one.min(other) as u8, one.max(other) as u8);
+        let (low, high) = (one.min(other) as u8, one.max(other) as u8);
         let weight = 1 + chance.below(most_weight) as u32;
-        if one != other && pairs.len() < 64 {
-            pairs.insert(pair, weight);
+        let known = all.iter().any(|link| (link.0, link.1) == (low, high));
+        if one == other || all.len() == 64 || known && parallel.is_none() {
+            return;
+        }
+        all.push((low, high, weight));
+        if parallel.is_some_and(|one_in| all.len() < 64 && chance.below(one_in) == 0) {
+            let beside = all[chance.below(all.len())];
+            let dearer = (beside.2 + chance.below(3 * nodes) as u32).min(65_535);
+            all.push((beside.0, beside.1, dearer));
         }
     };
     if chance.below(2) == 0 {
@@ -452,11 +524,12 @@ fn draw(chance: &mut Chance, nodes: usize, links: usize) -> Network {
         let (one, other) = (chance.below(nodes), chance.below(nodes));
         join(chance, one, other);
     }
+    all.sort();
     Network {
         nodes: nodes as u64,
-        lows: pairs.keys().map(|pair| pair.0).collect(),
-        highs: pairs.keys().map(|pair| pair.1).collect(),
-        weights: pairs.values().copied().collect(),
+        lows: all.iter().map(|link| link.0).collect(),
+        highs: all.iter().map(|link| link.1).collect(),
+        weights: all.iter().map(|link| link.2).collect(),
     }
 }
 
@@ -467,43 +540,44 @@ fn draw_set(chance: &mut Chance, links: usize, one_in: usize) -> u64 {
 
 // ----------------------------------------------------- two ways to paths
 
-/// The node before each node in the tree of best paths from a root, none for
-/// the root and for nodes that are not in the tree.
-fn parents(graph: &Graph, out: u64, root: usize) -> Vec<Option<usize>> {
+/// The interface that enters each node in the tree of best paths from a root,
+/// none for the root and for nodes that are not in the tree.
+fn branches(graph: &Graph, out: u64, root: usize) -> Vec<Option<usize>> {
     let chains = by_tree(graph, out, root);
-    let before_last = |chain: Vec<usize>| chain.iter().rev().nth(1).copied();
-    chains.into_iter().map(|chain| chain.and_then(before_last)).collect()
+    chains.into_iter().map(|chain| chain.and_then(|chain| chain.last().copied())).collect()
 }
 
 /// Whether `node` stands at or below `top` in such a tree.
-fn below(parents: &[Option<usize>], top: usize, node: usize) -> bool {
+fn below(graph: &Graph, branches: &[Option<usize>], top: usize, node: usize) -> bool {
     let mut climbing = Some(node);
     while let Some(here) = climbing {
         if here == top {
             return true;
         }
-        climbing = parents[here];
+        climbing = branches[here].map(|interface| graph.ends(interface).0);
     }
     false
 }
 
 /// 000's algorithm 1: the key links of interface j to i for every d at once,
-/// by subtrees of best-path trees. Its edge u to v stands for the whole link.
+/// by subtrees of best-path trees. Its edge u to v stands for the whole link,
+/// and its edges between i and j for the interface's own.
 fn keys_by_algorithm(graph: &Graph, interface: usize) -> Vec<u64> {
     let (j, i) = graph.ends(interface);
+    let back = interface ^ 1;
     let mut keys = vec![0; graph.nodes];
-    let usual = parents(graph, 0, i);
-    if usual[j] != Some(i) {
+    let usual = branches(graph, 0, i);
+    if usual[j] != Some(back) {
         return keys;
     }
     for (number, link) in graph.links.iter().enumerate() {
         for u in [link.low, link.high] {
-            let without = parents(graph, 1 << number, u);
-            if without[i] != Some(j) {
+            let without = branches(graph, 1 << number, u);
+            if without[i] != Some(interface) {
                 continue;
             }
             for (d, keys) in keys.iter_mut().enumerate() {
-                if below(&usual, j, d) && below(&without, i, d) {
+                if below(graph, &usual, j, d) && below(graph, &without, i, d) {
                     *keys |= 1 << number;
                 }
             }
@@ -512,11 +586,18 @@ fn keys_by_algorithm(graph: &Graph, interface: usize) -> Vec<u64> {
     keys
 }
 
+fn has_parallel_links(graph: &Graph) -> bool {
+    (0..graph.links.len()).any(|link| graph.pair(link).count_ones() > 1)
+}
+
 fn compare_ways(tally: &mut Tally, chance: &mut Chance, network: &Network) {
     let Ok(graph) = network.graph() else {
         return tally.check("networks drawn are good", false, || described(network));
     };
     tally.count("networks for both ways to best paths");
+    if has_parallel_links(&graph) {
+        tally.count("  such networks, with parallel links");
+    }
     let links = graph.links.len();
     let mut outs = vec![0];
     outs.extend((0..links).map(|link| 1 << link));
@@ -535,12 +616,17 @@ fn compare_ways(tally: &mut Tally, chance: &mut Chance, network: &Network) {
                     continue;
                 };
                 let least = sum_of(&graph, best);
-                let ends_here = all.iter().filter(|chain| chain.last() == Some(&to));
-                if ends_here.filter(|chain| sum_of(&graph, chain) == least).count() > 1 {
+                let nodes = nodes_of(&graph, from, best);
+                let mut equal = all.iter().filter(|(chain, end)| *end == to && sum_of(&graph, chain) == least);
+                if equal.clone().count() > 1 {
                     tally.count("  such paths, chosen among equal sums");
                 }
+                if equal.any(|(chain, _)| chain != best && nodes_of(&graph, from, chain) == nodes) {
+                    tally.count("  such paths, chosen among equal sums over the same nodes");
+                }
                 let back = by_tree(&graph, out, to)[from].clone();
-                let back = back.map(|chain| chain.into_iter().rev().collect::<Vec<_>>());
+                let turned = |chain: Vec<usize>| chain.iter().rev().map(|interface| interface ^ 1).collect();
+                let back: Option<Vec<usize>> = back.map(turned);
                 tally.check("best paths equal from either end", back.as_ref() == Some(best), place);
             }
         }
@@ -563,11 +649,25 @@ fn compare_ways(tally: &mut Tally, chance: &mut Chance, network: &Network) {
             // 000, section II: on the receiver's best path, and none where
             // the interface is the usual way to d.
             let (sender, receiver) = graph.ends(interface);
-            let path = tree.path(0, receiver, d).map_or(0, |chain| set_of(&graph, chain));
+            let path = tree.path(0, receiver, d).map_or(0, set_of);
             tally.check("key links lie on the best path", one & !path == 0, place);
-            if usize::from(tables::entry(&mut tree, 0, sender, d)) == receiver {
+            if tree.path(0, sender, d).is_some_and(|path| path.first() == Some(&interface)) {
                 tally.check("usual interfaces have no key links", one == 0, place);
             }
+            // So no two of them are parallel.
+            let pairs = (0..links).filter(|link| one >> link & 1 == 1).map(|link| graph.pair(link));
+            let single = pairs.clone().all(|pair| (pair & one).count_ones() == 1);
+            tally.check("key links of different pairs", single, place);
+            if pairs.into_iter().any(|pair| pair.count_ones() > 1) {
+                tally.count("  such sets with one of parallel links");
+            }
+        }
+        // One condition asked by nodes alone changes nothing; both do.
+        for (next_node, any_link) in [(true, false), (false, true)] {
+            let looser = rules::Looser { next_node, any_link };
+            let same = rules::looser_key_links(&mut tree, interface, looser) == by_tree;
+            let place = || format!("interface {interface}, {}", described(network));
+            tally.check("key links with one condition by nodes", same, place);
         }
     }
     let (by_trial, by_tree) = (tables::build(&mut trial), tables::build(&mut tree));
@@ -575,23 +675,31 @@ fn compare_ways(tally: &mut Tally, chance: &mut Chance, network: &Network) {
     let others = [&mut trial, &mut tree].map(rules::others);
     let [one, other] = others.map(|others| rules::count(&others, &by_tree.backwarding));
     tally.check("other rules equal both ways", one == other, || described(network));
-    let [_, not_own_link_alone, not_nearest_alone] = one;
-    if not_own_link_alone > 0 {
-        tally.count("  such networks, not as with the own link alone");
-    }
-    if not_nearest_alone > 0 {
-        tally.count("  such networks, not as with the nearest key link");
+    for (found, what) in one.into_iter().zip(NOT_AS).skip(1) {
+        if found > 0 {
+            tally.count(what);
+        }
     }
 }
+
+/// How networks are counted that tell a rule from another.
+const NOT_AS: [&str; 6] = [
+    "  such networks, with key links",
+    "  such networks, not as with the own link alone",
+    "  such networks, not as with the nearest key link",
+    "  such networks, not as without the own link's siblings",
+    "  such networks, not as without the key links' siblings",
+    "  such networks, not as with key links by nodes",
+];
 
 // ------------------------------------------------------------- demand 3
 
 /// A number for each node that two nodes share exactly if working links
 /// join them, however long the way. Knows nothing of paths or weights.
-fn parts(graph: &Graph, failed: Option<usize>) -> Vec<usize> {
+fn parts(graph: &Graph, failed: u64) -> Vec<usize> {
     let mut part: Vec<usize> = (0..graph.nodes).collect();
     for (number, link) in graph.links.iter().enumerate() {
-        if failed != Some(number) {
+        if failed >> number & 1 == 0 {
             let (kept, gone) = (part[link.low], part[link.high]);
             for label in &mut part {
                 if *label == gone {
@@ -609,19 +717,22 @@ fn broken(
     graph: &Graph,
     walk: &Walk,
     ends: (usize, usize),
-    failed: Option<usize>,
+    failed: u64,
     joined: bool,
 ) -> Option<&'static str> {
     let nodes: Vec<usize> = walk.nodes.iter().map(|&node| usize::from(node)).collect();
     if nodes.first() != Some(&ends.0) {
         return Some("starts elsewhere");
     }
+    if walk.interfaces.len() != walk.hops() {
+        return Some("not an interface for each hop");
+    }
     let mut crossed = vec![false; graph.interfaces()];
-    for hop in nodes.windows(2) {
-        let Some(interface) = graph.interface(hop[0], hop[1]) else {
+    for (hop, &interface) in nodes.windows(2).zip(&walk.interfaces) {
+        if graph.ends(interface) != (hop[0], hop[1]) {
             return Some("crosses no link");
-        };
-        if failed == Some(interface / 2) {
+        }
+        if failed >> (interface / 2) & 1 == 1 {
             return Some("crosses the failed link");
         }
         if std::mem::replace(&mut crossed[interface], true) {
@@ -647,6 +758,29 @@ const BY_ENDING: [&str; 4] = [
     "  such walks, ending 3",
 ];
 
+/// Whether a link is the first of those that join its two nodes, and so the
+/// cheapest.
+fn first_of_pair(graph: &Graph, link: usize) -> bool {
+    graph.pair(link).trailing_zeros() as usize == link
+}
+
+/// None, and each link alone, as sets.
+fn failures(graph: &Graph) -> impl Iterator<Item = u64> {
+    std::iter::once(0).chain((0..graph.links.len()).map(|link| 1 << link))
+}
+
+/// Whether each hop is over the link of the interface that its step answers,
+/// asked anew at each node, and to the node that the step answers.
+fn each_hop_a_step(built: &Built, walk: &Walk, d: usize, failed: u64) -> bool {
+    let mut at = walk::At::Start(usize::from(walk.nodes[0]));
+    let hops = walk.nodes[1..].iter().zip(&walk.interfaces);
+    hops.into_iter().all(|(&node, &interface)| {
+        let step = walk::take(&built.graph, built.tables.lent(), at, d, failed);
+        at = walk::At::Arrival(interface);
+        step == Step::Next { node: usize::from(node), interface }
+    })
+}
+
 fn walk_all(tally: &mut Tally, built: &Built) {
     let Built { network, graph, tables, .. } = built;
     tally.count("networks walked");
@@ -654,11 +788,14 @@ fn walk_all(tally: &mut Tally, built: &Built) {
     tally.check("built tables are accepted", accepted, || described(network));
     let others = rules::others(&mut Best::new(graph, by_tree));
     let own_link_alone = Lent { backwarding: &others.own_link_alone, ..tables.lent() };
-    for failed in std::iter::once(None).chain((0..graph.links.len()).map(Some)) {
+    if has_parallel_links(graph) {
+        tally.count("  such networks, with parallel links");
+    }
+    for failed in failures(graph) {
         let part = parts(graph, failed);
         for source in 0..graph.nodes {
             for d in 0..graph.nodes {
-                let place = || format!("{source} to {d}, failed {failed:?}, {}", described(network));
+                let place = || format!("{source} to {d}, failed {failed:b}, {}", described(network));
                 let walk = walk::follow(graph, tables.lent(), source, d, failed, u8::MAX);
                 if source == d {
                     let stays = walk.ending == walk::DELIVERED && walk.hops() == 0;
@@ -675,11 +812,17 @@ fn walk_all(tally: &mut Tally, built: &Built) {
                 let other = walk::follow(graph, own_link_alone, source, d, failed, u8::MAX);
                 let same = (other.ending, &other.nodes) == (walk.ending, &walk.nodes);
                 tally.check("walks as with the own link alone taken out", same, place);
-                let packet = send(built, source, d, failed.map_or(0, |link| 1 << link));
+                let packet = send(built, source, d, failed);
                 let last = usize::from(walk.nodes[walk.hops()]);
-                let same = (packet.node, packet.hops) == (last, walk.hops());
-                tally.check("walks that end where the packet does", same, place);
+                let same = (packet.node, &packet.crossed) == (last, &walk.interfaces);
+                tally.check("walks over the links that the packet crosses", same, place);
+                let stepwise = each_hop_a_step(built, &walk, d, failed);
+                tally.check("walks whose hops are their steps'", stepwise, place);
                 tally.count(BY_ENDING[usize::from(walk.ending)]);
+                let dearer = |&interface: &usize| !first_of_pair(graph, interface / 2);
+                if walk.interfaces.iter().any(dearer) {
+                    tally.count("  such walks, over a link with one parallel before it");
+                }
                 if walk.hops() + 3 == 2 * graph.nodes {
                     tally.count("  such walks, as long as allowed");
                 }
@@ -695,7 +838,8 @@ struct Packet {
     node: usize,
     /// What it reads there.
     entry: u8,
-    hops: usize,
+    /// The interfaces that it has come over.
+    crossed: Vec<usize>,
 }
 
 const MOST_HOPS: usize = 255;
@@ -705,9 +849,13 @@ const MOST_HOPS: usize = 255;
 fn send(built: &Built, source: usize, d: usize, failed: u64) -> Packet {
     let Built { graph, tables, .. } = built;
     let works = |interface: &usize| failed >> (interface / 2) & 1 == 0;
-    let mut packet = Packet { node: source, entry: built.routing(source, d), hops: 0 };
-    while packet.node != d && packet.hops < MOST_HOPS {
-        let towards = |entry: u8| graph.interface(packet.node, usize::from(entry));
+    let mut packet = Packet { node: source, entry: built.routing(source, d), crossed: vec![] };
+    while packet.node != d && packet.crossed.len() < MOST_HOPS {
+        // Link k is interface 2k at its low end, 2k + 1 at its high end.
+        let towards = |entry: u8| {
+            let link = graph.links.get(usize::from(entry))?;
+            Some(2 * usize::from(entry) + usize::from(link.high == packet.node))
+        };
         let Some(usual) = towards(packet.entry) else {
             break;
         };
@@ -717,7 +865,7 @@ fn send(built: &Built, source: usize, d: usize, failed: u64) -> Packet {
         };
         packet.node = graph.ends(crossed).1;
         packet.entry = tables.forwarding[crossed * graph.nodes + d];
-        packet.hops += 1;
+        packet.crossed.push(crossed);
     }
     packet
 }
@@ -749,21 +897,23 @@ fn send_all(tally: &mut Tally, built: &Built, failed: u64) {
         for d in (0..graph.nodes).filter(|&d| d != source) {
             let place = || format!("{source} to {d}, failed {failed:b}, {}", described(network));
             let packet = send(built, source, d, failed);
-            tally.add("arrivals, whatever links have failed", packet.hops);
+            let hops = packet.crossed.len();
+            tally.add("arrivals, whatever links have failed", hops);
             // It has left every arrival but the last by the entry found there.
-            let found = packet.hops == 0 || packet.entry != NO_PATH;
+            let found = hops == 0 || packet.entry != NO_PATH;
             tally.check("packets that find an entry on each arrival", found, place);
             if packet.node == d {
                 tally.count("  such packets, delivered");
-            } else if packet.hops == MOST_HOPS {
+            } else if hops == MOST_HOPS {
                 tally.count("  such packets, still going after 255 hops");
-            } else if packet.hops == 0 && packet.entry == NO_PATH {
+            } else if hops == 0 && packet.entry == NO_PATH {
                 tally.count("  such packets, no entry at the start");
             } else {
-                let link = graph.link(packet.node, usize::from(packet.entry));
-                let at_failed = link.is_some_and(|link| failed >> link & 1 == 1);
+                let link = usize::from(packet.entry);
+                let there = graph.over(packet.node, link).is_some();
+                let at_failed = there && failed >> link & 1 == 1;
                 tally.check("  such packets, dropped at a failed link", at_failed, place);
-                if packet.hops > 0 && failed.count_ones() > 1 {
+                if hops > 0 && failed.count_ones() > 1 {
                     tally.count("  such packets, dropped on arrival, several links failed");
                 }
             }
@@ -773,15 +923,15 @@ fn send_all(tally: &mut Tally, built: &Built, failed: u64) {
 
 /// A step can be asked where no packet arrives. It finds nothing exactly if
 /// no links, failed or not, join the node to the destination.
-fn step_on_arrival(tally: &mut Tally, built: &Built, failed: Option<usize>) {
+fn step_on_arrival(tally: &mut Tally, built: &Built, failed: u64) {
     let Built { network, graph, tables, .. } = built;
-    let part = parts(graph, None);
+    let part = parts(graph, 0);
     for interface in 0..graph.interfaces() {
         for d in 0..graph.nodes {
             let step = walk::take(graph, tables.lent(), walk::At::Arrival(interface), d, failed);
             let nothing = matches!(step, Step::Nothing);
             let apart = part[graph.ends(interface).1] != part[d];
-            let place = || format!("over {interface} for {d}, failed {failed:?}, {}", described(network));
+            let place = || format!("over {interface} for {d}, failed {failed:b}, {}", described(network));
             tally.check("steps on arrival, nothing exactly where apart", nothing == apart, place);
             if nothing {
                 tally.count("  such steps, nothing to follow");
@@ -799,7 +949,7 @@ fn arrive_all(tally: &mut Tally, chance: &mut Chance, built: &Built) {
         }
         send_all(tally, built, failed);
     }
-    for failed in std::iter::once(None).chain((0..links).map(Some)) {
+    for failed in failures(&built.graph) {
         step_on_arrival(tally, built, failed);
     }
 }
@@ -819,6 +969,7 @@ pub fn run(output: &mut impl std::io::Write) -> Result<bool, String> {
     part(&mut |tally| {
         bench_sheet(tally);
         nothing_on_arrival(tally);
+        parallel::rows(tally);
     })?;
     part(&mut |tally| {
         batches(tally);
@@ -827,10 +978,12 @@ pub fn run(output: &mut impl std::io::Write) -> Result<bool, String> {
         counts_of_rules(tally);
     })?;
     part(&mut |tally| {
-        for _ in 0..SMALL_NETWORKS {
-            let nodes = 1 + chance.below(8);
-            let links = chance.below(3 * nodes);
-            let network = draw(&mut chance, nodes, links);
+        for number in 0..SMALL_NETWORKS {
+            let parallel = PARALLEL[number % PARALLEL.len()];
+            // Every parallel link doubles the paths over its nodes.
+            let nodes = 1 + chance.below(if parallel.is_some() { 6 } else { 8 });
+            let links = chance.below(if parallel.is_some() { 2 } else { 3 } * nodes);
+            let network = draw(&mut chance, nodes, links, parallel);
             compare_ways(tally, &mut chance, &network);
         }
     })?;
@@ -838,7 +991,8 @@ pub fn run(output: &mut impl std::io::Write) -> Result<bool, String> {
     for number in 0..WALKED_NETWORKS {
         let nodes = if number % 4 == 0 { 9 + chance.below(24) } else { 1 + chance.below(9) };
         let links = chance.below(3 * nodes);
-        walked.push(Built::of(draw(&mut chance, nodes, links), by_tree));
+        let network = draw(&mut chance, nodes, links, PARALLEL[number % PARALLEL.len()]);
+        walked.push(Built::of(network, by_tree));
     }
     part(&mut |tally| {
         for built in &walked {

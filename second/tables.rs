@@ -1,5 +1,6 @@
 //! Key links and the three tables, straight from the formulas of document 01
-//! and, for backwarding entries, of request L2 (000, section II).
+//! and, for backwarding entries, of request L2 (000, section II). An entry
+//! names a link, and so do all formulas (request L5).
 
 use crate::network::{index, Network, Refusal, MOST_NODES};
 use crate::paths::{by_tree, set_of, sum_of, Best};
@@ -36,14 +37,14 @@ impl Tables {
     }
 }
 
-/// The first node from `at` to `d` without the links in `out`, as an entry.
+/// The first link from `at` to `d` without the links in `out`, as an entry.
 pub fn entry(best: &mut Best, out: u64, at: usize, d: usize) -> u8 {
     if at == d {
         return OWN;
     }
     match best.path(out, at, d) {
-        // Two different nodes: the chain has a second one, below 32.
-        Some(chain) => chain[1] as u8,
+        // Two different nodes: the chain has a first link, below 64.
+        Some(chain) => (chain[0] / 2) as u8,
         None => NO_PATH,
     }
 }
@@ -51,23 +52,22 @@ pub fn entry(best: &mut Best, out: u64, at: usize, d: usize) -> u8 {
 /// The key links of an interface j to i for each d (000, section II; 001,
 /// section 2.2), as sets by link number. A link leads both ways, so either of
 /// its ends is taken as u; and it is taken out whole, not in one direction
-/// only.
+/// only. Both conditions ask for the interface's own link (request L5).
 pub fn key_links(best: &mut Best, interface: usize) -> Vec<u64> {
     let graph = best.graph;
-    let (j, i) = graph.ends(interface);
-    // First condition: with all links present, j is the entry of i for d.
+    let (own, i) = (interface / 2, graph.ends(interface).1);
+    // First condition: with all links present, it is the entry of i for d.
     let asked: Vec<usize> =
-        (0..graph.nodes).filter(|&d| usize::from(entry(best, 0, i, d)) == j).collect();
+        (0..graph.nodes).filter(|&d| usize::from(entry(best, 0, i, d)) == own).collect();
     let mut keys = vec![0; graph.nodes];
     for (number, link) in graph.links.iter().enumerate() {
         let alone = 1 << number;
         for u in [link.low, link.high] {
-            // Second condition: without the link, the best path from u to d
-            // crosses from j to i.
+            // Second condition: without the key link, the best path from u to
+            // d crosses it from j to i.
             let paths = best.paths(alone, u);
             for &d in &asked {
-                let path = paths[d].as_deref().unwrap_or(&[]);
-                if path.windows(2).any(|hop| hop == [j, i]) {
+                if paths[d].as_ref().is_some_and(|path| path.contains(&interface)) {
                     keys[d] |= alone;
                 }
             }
@@ -115,7 +115,7 @@ pub fn told(network: &Network, source: u64, destination: u64) -> Result<Told, Re
     let entry = entry(&mut best, 0, source, destination);
     // No path tells 0 and 0 like the path of no links; the entry differs.
     let chain = best.path(0, source, destination).unwrap_or(&[]);
-    Ok(Told { sum: sum_of(&graph, chain), links: set_of(&graph, chain), entry })
+    Ok(Told { sum: sum_of(&graph, chain), links: set_of(chain), entry })
 }
 
 /// Refusals: the network's, then 13 and 11.

@@ -11,10 +11,11 @@ pub enum Failure {
 }
 
 impl Failure {
-    fn check(self, graph: &Graph) -> Result<Option<usize>, Refusal> {
+    /// As a set of links, of one at most. What moves packets takes any set.
+    pub fn check(self, graph: &Graph) -> Result<u64, Refusal> {
         match self {
-            Failure::None => Ok(None),
-            Failure::Link(number) => index(number, graph.links.len(), 12).map(Some),
+            Failure::None => Ok(0),
+            Failure::Link(number) => index(number, graph.links.len(), 12).map(|link| 1 << link),
         }
     }
 }
@@ -34,6 +35,7 @@ pub enum At {
     Arrival(usize),
 }
 
+#[derive(PartialEq, Debug)]
 pub enum Step {
     Delivered,
     Nothing,
@@ -57,7 +59,7 @@ fn row_fits(graph: &Graph, decider: usize, row: &[u8]) -> bool {
         if d == decider {
             entry == OWN
         } else {
-            entry == NO_PATH || graph.link(decider, usize::from(entry)).is_some()
+            entry == NO_PATH || graph.over(decider, usize::from(entry)).is_some()
         }
     })
 }
@@ -77,7 +79,7 @@ fn table_entries(graph: &Graph, tables: Lent) -> Result<(), Refusal> {
 // ------------------------------------------------------------- moving
 
 /// One step; everything has been checked.
-pub fn take(graph: &Graph, tables: Lent, at: At, d: usize, failed: Option<usize>) -> Step {
+pub fn take(graph: &Graph, tables: Lent, at: At, d: usize, failed: u64) -> Step {
     let (node, table, row) = match at {
         At::Start(node) => (node, tables.routing, node),
         At::Arrival(interface) => (graph.ends(interface).1, tables.forwarding, interface),
@@ -85,22 +87,23 @@ pub fn take(graph: &Graph, tables: Lent, at: At, d: usize, failed: Option<usize>
     if node == d {
         return Step::Delivered;
     }
-    // The way to a neighbour by an entry, none for the entry 255. The entry
+    // The interface that an entry leads over, none for the entry 255. The entry
     // is not 254, as that one stands only where d is the deciding node.
     let follow = |table: &[u8], row: usize| {
-        let next = usize::from(table[row * graph.nodes + d]);
-        graph.interface(node, next).map(|interface| (next, interface))
+        let link = usize::from(table[row * graph.nodes + d]);
+        graph.over(node, link)
     };
-    let works = |interface: usize| failed != Some(interface / 2);
+    let works = |interface: usize| failed >> (interface / 2) & 1 == 0;
+    let next = |interface: usize| Step::Next { node: graph.ends(interface).1, interface };
 
-    let Some((next, interface)) = follow(table, row) else {
+    let Some(usual) = follow(table, row) else {
         return Step::Nothing;
     };
-    if works(interface) {
-        return Step::Next { node: next, interface };
+    if works(usual) {
+        return next(usual);
     }
-    match follow(tables.backwarding, interface) {
-        Some((next, interface)) if works(interface) => Step::Next { node: next, interface },
+    match follow(tables.backwarding, usual) {
+        Some(around) if works(around) => next(around),
         _ => Step::Dropped,
     }
 }
@@ -114,6 +117,9 @@ pub struct Walk {
     pub ending: u8,
     /// Hops + 1 of them, source first.
     pub nodes: Vec<u8>,
+    /// Those that the steps answered, one for each hop. Nodes alone do not tell
+    /// which of parallel links was crossed.
+    pub interfaces: Vec<usize>,
 }
 
 impl Walk {
@@ -128,11 +134,10 @@ pub fn follow(
     tables: Lent,
     source: usize,
     d: usize,
-    failed: Option<usize>,
+    failed: u64,
     limit: u8,
 ) -> Walk {
-    let mut walk = Walk { ending: DELIVERED, nodes: Vec::with_capacity(usize::from(limit) + 1) };
-    walk.nodes.push(source as u8);
+    let mut walk = Walk { ending: DELIVERED, nodes: vec![source as u8], interfaces: vec![] };
     let mut at = At::Start(source);
     let mut node = source;
     // The destination comes before the limit, and the limit before the step.
@@ -144,6 +149,7 @@ pub fn follow(
         match (take(graph, tables, at, d, failed), at) {
             (Step::Next { node: next, interface }, _) => {
                 walk.nodes.push(next as u8);
+                walk.interfaces.push(interface);
                 node = next;
                 at = At::Arrival(interface);
             }
@@ -174,7 +180,7 @@ pub struct Figures {
 const REPORT_LIMIT: u8 = 64;
 
 /// Every ordered pair of different nodes; everything has been checked.
-pub fn count(graph: &Graph, tables: Lent, failed: Option<usize>) -> Figures {
+pub fn count(graph: &Graph, tables: Lent, failed: u64) -> Figures {
     let mut figures = Figures::default();
     for source in 0..graph.nodes {
         for d in (0..graph.nodes).filter(|&d| d != source) {
