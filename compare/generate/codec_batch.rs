@@ -1,6 +1,6 @@
 //! Sub-command `codec`: a batch of stored plans and of networks in memory, for
 //! the plan reader and writer. It reaches every refusal, every limit and what
-//! lies one past it.
+//! lies one past it, and parallel links in every order.
 //!
 //! Of every six records five are plans and one is a network. Each of the two
 //! sorts first runs through its list of deliberate cases and is then filled up
@@ -8,8 +8,9 @@
 
 use crate::chance::Chance;
 use crate::networks::{Net, PLAN_A};
+use crate::parallel_plans;
 use crate::record::{record, two, LONGEST_PLAN, LONGEST_ROW};
-use crate::stored::{draw, draw_any, draw_with, longest, plan_at_random, plan_list, Draft};
+use crate::stored::{draw, draw_any, draw_with, longest, plan_at_random, plan_list, Draft, PlanCase};
 use std::collections::BTreeMap;
 
 // ------------------------------------------------------------- networks
@@ -231,7 +232,23 @@ fn fault_at_random(chance: &mut Chance, net: Net) -> Net {
     }
 }
 
+/// Networks with parallel links; every third has other room than it needs.
+fn parallel_list(chance: &mut Chance) -> Vec<MemoryCase> {
+    let drafts = parallel_plans::draft_list(chance).into_iter().enumerate();
+    let mut list = Vec::new();
+    for (number, (name, draft)) in drafts {
+        let exact = Memory::of(&draft);
+        let room = if number % 3 == 0 { room_at_random(chance, exact.room) } else { exact.room };
+        list.push((name, exact.with_room(room)));
+    }
+    list
+}
+
 fn memory_at_random(chance: &mut Chance) -> MemoryCase {
+    if chance.one_in(3) {
+        let (name, draft) = parallel_plans::draft_at_random(chance);
+        return (name, Memory::of(&draft));
+    }
     let mut memory = Memory::of(&draw_any(chance));
     memory.room = room_at_random(chance, memory.room);
     if chance.one_in(3) {
@@ -245,31 +262,41 @@ fn memory_at_random(chance: &mut Chance) -> MemoryCase {
 
 // ------------------------------------------------------------- the batch
 
+fn any_plan_at_random(chance: &mut Chance) -> PlanCase {
+    if chance.one_in(4) {
+        let (name, draft) = parallel_plans::draft_at_random(chance);
+        return (name, draft.plan());
+    }
+    plan_at_random(chance)
+}
+
 pub fn make(chance: &mut Chance, count: usize) -> Vec<u8> {
-    let plans = plan_list(chance);
-    let memories = memory_list(chance);
+    let mut plans = parallel_plans::plan_list(chance);
+    plans.extend(plan_list(chance));
+    let mut memories = parallel_list(chance);
+    memories.extend(memory_list(chance));
     let (mut next_plan, mut next_memory) = (plans.into_iter(), memories.into_iter());
 
-    let mut kinds: BTreeMap<&'static str, usize> = BTreeMap::new();
+    let mut kinds: BTreeMap<(char, &'static str), usize> = BTreeMap::new();
     let mut sorts = [0, 0];
     let mut batch = Vec::new();
     for number in 0..count {
         let (kind, record) = if number % 6 == 5 {
             sorts[1] += 1;
-            let (kind, memory) = next_memory.next().unwrap_or_else(|| memory_at_random(chance));
-            (kind, memory.record())
+            let (name, memory) = next_memory.next().unwrap_or_else(|| memory_at_random(chance));
+            (('N', name), memory.record())
         } else {
             sorts[0] += 1;
-            let (kind, plan) = next_plan.next().unwrap_or_else(|| plan_at_random(chance));
+            let (name, plan) = next_plan.next().unwrap_or_else(|| any_plan_at_random(chance));
             assert!(plan.len() <= LONGEST_PLAN);
-            (kind, record('P', &[&plan]))
+            (('P', name), record('P', &[&plan]))
         };
         *kinds.entry(kind).or_default() += 1;
         batch.extend(record);
     }
 
-    for (kind, made) in kinds {
-        eprintln!("{made:6} {kind}");
+    for ((kind, name), made) in kinds {
+        eprintln!("{made:6} {kind} {name}");
     }
     eprintln!("{count:6} records: {} plans, {} networks", sorts[0], sorts[1]);
     let left = next_plan.len() + next_memory.len();

@@ -9,6 +9,7 @@
 //! Use:    generate codec SEED COUNT > batch      codec_batch.rs
 //!         generate tables SEED COUNT > batch     tables_batch.rs
 //!         generate reports SEED COUNT > batch    reports_batch.rs
+//!         generate parallel SEED COUNT > batch   parallel_batch.rs
 //!         generate example NAME > plan           examples.rs
 //!
 //! The files named tell what COUNT counts, and ../FORMAT.md what a batch looks
@@ -20,6 +21,9 @@ mod codec_batch;
 mod detours;
 mod examples;
 mod networks;
+mod parallel;
+mod parallel_batch;
+mod parallel_plans;
 mod record;
 mod reports_batch;
 mod shapes;
@@ -38,7 +42,8 @@ fn batch(command: &str, seed: &str, count: &str) -> Result<Vec<u8>, String> {
         "codec" => Ok(codec_batch::make(chance, count)),
         "tables" => Ok(tables_batch::make(chance, count)),
         "reports" => Ok(reports_batch::make(chance, count)),
-        other => Err(format!("no such batch: {other}; there is codec, tables or reports")),
+        "parallel" => Ok(parallel_batch::make(chance, count)),
+        other => Err(format!("no such batch: {other}; there is codec, tables, reports or parallel")),
     }
 }
 

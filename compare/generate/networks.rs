@@ -77,13 +77,19 @@ impl Net {
         if interface % 2 == 0 { (low, high) } else { (high, low) }
     }
 
+    /// Of the first link from one node to the other.
     pub fn interface(&self, from: usize, to: usize) -> Option<usize> {
         (0..self.interfaces()).find(|&interface| self.ends(interface) == (from, to))
     }
 
-    pub fn neighbours(&self, node: usize) -> Vec<usize> {
-        let leaving = (0..self.interfaces()).map(|interface| self.ends(interface));
-        leaving.filter(|ends| ends.0 == node).map(|ends| ends.1).collect()
+    /// The interfaces that leave a node. An entry names the link of one.
+    pub fn leaving(&self, node: usize) -> Vec<usize> {
+        (0..self.interfaces()).filter(|&interface| self.ends(interface).0 == node).collect()
+    }
+
+    /// The interface from a node over the link that an entry names.
+    pub fn over(&self, node: usize, entry: u8) -> Option<usize> {
+        self.leaving(node).into_iter().find(|interface| interface / 2 == usize::from(entry))
     }
 
     /// How many links away each node is, far too many if it is not joined.
@@ -141,7 +147,11 @@ impl Net {
 
 pub type NetCase = (&'static str, Net);
 
-/// The deliberate networks.
+/// How many networks of the bench sheet come first in the list.
+pub const BENCH_SHEET: usize = 3;
+
+/// The deliberate networks, none with parallel links. Whole reports on them are
+/// kept, so the list stays as it is (reports_batch.rs).
 pub fn net_list(chance: &mut Chance) -> Vec<NetCase> {
     // Document 01's own: plan A, the square, two nodes.
     let plan_a = Net::listed(4, &PLAN_A);

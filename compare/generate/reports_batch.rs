@@ -4,6 +4,10 @@
 //!
 //! COUNT is the number of plans. Deliberate ones come first, the rest is drawn
 //! at random: two of three are small and good, the third may be anything.
+//!
+//! What the proved programs said of these plans before there were parallel links
+//! is kept (../kept.txt). So all that is drawn here stays as it is, and new plans
+//! go to another batch (parallel_batch.rs).
 
 use crate::chance::Chance;
 use crate::networks::{net_list, net_of_size, Net, Weights, MOST_LINKS};
@@ -13,7 +17,7 @@ use crate::stored::{lengthened, longest, plan_at_random, plan_list, Draft};
 const FULL_PLANS: usize = 84;
 const FAR_TOO_LONG: usize = 100_000;
 
-fn plan_of(net: &Net) -> Vec<u8> {
+pub fn plan_of(net: &Net) -> Vec<u8> {
     Draft::of(net).plan()
 }
 
@@ -59,6 +63,13 @@ pub fn make(chance: &mut Chance, count: usize) -> Vec<u8> {
     plans.extend(plan_list(chance).into_iter().step_by(3).map(|(_, plan)| plan));
     let deliberate = plans.len();
     plans.resize_with(count, || plan_drawn(chance));
+    text(&plans, deliberate)
+}
+
+/// A line for each plan. Standard error tells how many were deliberate, and
+/// whether all of these are there.
+pub fn text(plans: &[Vec<u8>], deliberate: usize) -> Vec<u8> {
+    let count = plans.len();
     if deliberate > count {
         eprintln!("{:6} deliberate plans left out: the count is too small for them", deliberate - count);
     }

@@ -5,10 +5,10 @@ use crate::chance::Chance;
 use crate::networks::{Link, Net, MOST_LINKS, PLAN_A};
 use crate::record::LONGEST_PLAN;
 
-const LARGEST_NUMBER: usize = 0x1F_FFFF;
+pub const LARGEST_NUMBER: usize = 0x1F_FFFF;
 
 /// The canonical groups of a number below 2^21.
-fn groups(value: usize) -> Vec<u8> {
+pub fn groups(value: usize) -> Vec<u8> {
     let [a, b, c] = [value & 127, value >> 7 & 127, value >> 14].map(|group| group as u8);
     match value {
         0..=127 => vec![a],
@@ -34,7 +34,7 @@ fn low_of(link: usize) -> usize {
 fn difference_of(link: usize) -> usize {
     3 + 3 * link
 }
-fn weight_of(link: usize) -> usize {
+pub fn weight_of(link: usize) -> usize {
     4 + 3 * link
 }
 
@@ -47,7 +47,7 @@ impl Draft {
         Draft { nodes: net.size(), links: (0..net.links()).map(link).collect() }
     }
 
-    fn parts(&self) -> Vec<Vec<u8>> {
+    pub fn parts(&self) -> Vec<Vec<u8>> {
         let mut parts = vec![groups(self.nodes), groups(self.links.len())];
         for &(low, high, weight) in &self.links {
             parts.extend([groups(low), groups(high - low), groups(weight)]);
@@ -60,7 +60,7 @@ impl Draft {
     }
 
     /// The plan with the number at one position given by other bytes.
-    fn plan_with(&self, position: usize, bytes: &[u8]) -> Vec<u8> {
+    pub fn plan_with(&self, position: usize, bytes: &[u8]) -> Vec<u8> {
         self.plan_with_all(&[(position, bytes.to_vec())])
     }
 
@@ -72,7 +72,7 @@ impl Draft {
         parts.concat()
     }
 
-    fn last(&self) -> usize {
+    pub fn last(&self) -> usize {
         self.links.len() - 1
     }
 }

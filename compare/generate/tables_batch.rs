@@ -1,14 +1,15 @@
 //! Sub-command `tables`: a batch of records for paths, key links, tables, steps
 //! and walks. It reaches every refusal, every ending, arrivals that find
-//! nothing, equal paths, bridges, separate parts, interfaces with several key
-//! links, the limits and what lies one past them.
+//! nothing, equal paths, parallel links, bridges, separate parts, interfaces with
+//! several key links, the limits and what lies one past them.
 //!
 //! COUNT is the number of good networks; each brings records of every kind. A
 //! list of deliberate networks comes first, the rest is drawn at random.
 //! Deliberate steps and walks, and networks with a fault, come on top of them.
 
 use crate::chance::Chance;
-use crate::networks::{net_at_random, net_list, Link, Net, NetCase, Weights, MOST_LINKS};
+use crate::networks::{net_at_random, net_list, Link, Net, NetCase, Weights, BENCH_SHEET, MOST_LINKS};
+use crate::parallel;
 use crate::record::{eight, record, two, LONGEST_ROW, LONGEST_TABLE, LONGEST_TRACE};
 use crate::shapes::Shape;
 use std::collections::BTreeMap;
@@ -52,11 +53,16 @@ fn bad_list(chance: &mut Chance) -> Vec<NetCase> {
             }
         }
         for link in [1, last / 2, last] {
-            let equal = net.with_ends(link, net.lows[link - 1], net.highs[link - 1]);
-            list.push(("order", equal.clone()));
-            list.push(("order", net.with_ends(link, 0, 1)));
-            list.push(("order and weight", equal.with_weight(link, 0)));
-            list.push(("weight, then order", equal.with_weight(link - 1, 0)));
+            let first = net.with_ends(0, 0, 2);
+            let descending = first.with_ends(link, 0, 1);
+            list.push(("order", descending.clone()));
+            list.push(("order and weight", descending.with_weight(link, 0)));
+            let twin = net.with_ends(link, net.lows[link - 1], net.highs[link - 1]);
+            let lighter = twin.with_weight(link - 1, 5).with_weight(link, 4);
+            list.push(("lighter twin", lighter.clone()));
+            list.push(("twin of no weight", lighter.with_weight(link, 0)));
+            list.push(("twin too heavy", lighter.with_weight(link, 65_536)));
+            list.push(("weight, then twin", lighter.with_weight(link - 1, 0)));
         }
     }
     list
@@ -85,12 +91,17 @@ fn exact_lengths(net: &Net) -> [usize; 3] {
     [0, 1, 2].map(|table| row_count(net, table) * net.size())
 }
 
+/// The entry that leads over an interface: the number of its link.
+fn entry_over(interface: usize) -> u8 {
+    (interface / 2) as u8
+}
+
 /// Tables that nobody built from best paths, but that a walk must accept.
 /// Some of them lead nearly everywhere, some round in circles, some have
 /// gaps, so that every ending occurs, also for want of an entry on arrival.
 fn arbitrary(chance: &mut Chance, net: &Net) -> Tables {
     let n = net.size();
-    // One entry in so many is 255; with 0, only where there is no neighbour.
+    // One entry in so many is 255; with 0, only where there is no link.
     // Backwarding has its own share, so that packets which travel well are
     // dropped at the failed link now and then.
     let often = chance.pick(&[0, 0, 40, 8, 2]);
@@ -102,20 +113,23 @@ fn arbitrary(chance: &mut Chance, net: &Net) -> Tables {
         let mut bytes = Vec::new();
         for row in 0..row_count(net, table) {
             let node = decider(net, table, row);
-            let mut choices = net.neighbours(node);
+            let mut choices = net.leaving(node);
             // A backwarding entry that leads over the failed link again is
             // accepted and gets a packet dropped: rare, but wanted.
             if table == 2 && choices.len() > 1 && !chance.one_in(8) {
-                choices.retain(|&next| next != net.ends(row).1);
+                choices.retain(|&next| next != row);
             }
             for (d, distances) in distances.iter().enumerate() {
-                let nearest = choices.iter().copied().min_by_key(|&next| distances[next]);
-                let gap = gaps[table] > 0 && chance.one_in(gaps[table]);
-                bytes.push(match nearest {
+                let nearest = choices.iter().map(|&next| distances[net.ends(next).1]).min();
+                // Of parallel links each leads as near.
+                let nearest = choices.iter().filter(|&&next| Some(distances[net.ends(next).1]) == nearest);
+                let nearest: Vec<usize> = nearest.copied().collect();
+                let gap = choices.is_empty() || gaps[table] > 0 && chance.one_in(gaps[table]);
+                bytes.push(match gap {
                     _ if d == node => 254,
-                    Some(nearest) if !gap && chance.below(100) < aim => nearest as u8,
-                    Some(_) if !gap => chance.pick(&choices) as u8,
-                    _ => 255,
+                    true => 255,
+                    false if chance.below(100) < aim => entry_over(chance.pick(&nearest)),
+                    false => entry_over(chance.pick(&choices)),
                 });
             }
         }
@@ -150,8 +164,9 @@ fn damaged(chance: &mut Chance, net: &Net, tables: &mut Tables) -> &'static str 
     let node = decider(net, table, row);
     let any_node = chance.below(n);
     let d = chance.pick(&[node, n - 1, any_node, any_node]);
-    let other = chance.below(n) as u8;
-    let entries = [n as u8, 31, 32, 128, 253, 254, 255, node as u8, other, other + 128];
+    let links = net.links() as u8;
+    let other = if links == 0 { 0 } else { chance.below(net.links()) as u8 };
+    let entries = [links, links + 1, 63, 64, 253, 254, 255, node as u8, other, other, other + 128];
     tables[table][row * n + d] = chance.pick(&entries);
     "entry changed"
 }
@@ -326,7 +341,7 @@ fn link_ahead(
     for _ in 0..=chance.below(4) {
         let node = decider(net, table, row);
         let entry = tables[table].get(row * net.size() + d).copied()?;
-        match net.interface(node, usize::from(entry)) {
+        match net.over(node, entry) {
             Some(interface) => (ahead, table, row) = (Some(interface / 2), 1, interface),
             None => break,
         }
@@ -481,9 +496,10 @@ fn push_figures(chance: &mut Chance, made: &mut Made, net: &Net, drawn: &Tables)
     made.push('F', case_of(damage, wrong), &parts);
 }
 
-/// Networks up to this many pairs of interface and destination get a K record
-/// for each of them.
+/// Networks up to this many pairs of interface and destination, and this many
+/// links, get a K record for each pair.
 const ALL_KEYS: usize = 400;
+const ALL_KEYS_LINKS: usize = 32;
 
 fn push_good(chance: &mut Chance, made: &mut Made, net: &Net) {
     push_tables(made, "exact tables", net, exact_lengths(net));
@@ -491,7 +507,7 @@ fn push_good(chance: &mut Chance, made: &mut Made, net: &Net) {
         push_odd_tables(chance, made, net);
     }
     made.push('A', "good network", &[&net.bytes()]);
-    if net.interfaces() * net.size() <= ALL_KEYS {
+    if net.interfaces() * net.size() <= ALL_KEYS && net.links() <= ALL_KEYS_LINKS {
         for interface in 0..net.interfaces() {
             for d in 0..net.size() {
                 push_keys(made, "all of a small network", net, interface as u64, d as u64);
@@ -551,17 +567,18 @@ fn push_bad(chance: &mut Chance, made: &mut Made, case: &str, bad: &Net, near: &
 
 // ---------------------------------------------------- nothing on arrival
 
-/// Entries that lead to the neighbour with the fewest links to go. A packet
-/// that is turned back goes to another than the one it cannot be sent to.
+/// Entries that lead to the neighbour with the fewest links to go, over the
+/// first link to it. A packet that is turned back goes over another link than
+/// the one it cannot be sent over.
 fn straight_row(net: &Net, table: usize, row: usize) -> Vec<u8> {
     let node = decider(net, table, row);
-    let mut choices = net.neighbours(node);
+    let mut choices = net.leaving(node);
     if table == 2 {
-        choices.retain(|&next| next != net.ends(row).1);
+        choices.retain(|&next| next != row);
     }
-    let entry = |d: usize| match choices.iter().min_by_key(|&&next| net.distances(d)[next]) {
+    let entry = |d: usize| match choices.iter().min_by_key(|&&next| net.distances(d)[net.ends(next).1]) {
         _ if d == node => 254,
-        Some(&nearest) => nearest as u8,
+        Some(&nearest) => entry_over(nearest),
         None => 255,
     };
     (0..net.size()).map(entry).collect()
@@ -596,8 +613,8 @@ fn push_gap(made: &mut Made, case: &str, nodes: usize, source: u64, gap: (usize,
 /// The built tables of three nodes whose one link is 0-1. The second program's
 /// self-test has the same bytes and shows that they are: change them there too.
 const BUILT_APART: [&[u8]; 3] = [
-    &[254, 1, 255, 0, 254, 255, 255, 255, 254],
-    &[0, 254, 255, 254, 1, 255],
+    &[254, 0, 255, 0, 254, 255, 255, 255, 254],
+    &[0, 254, 255, 254, 0, 255],
     &[254, 255, 255, 255, 254, 255],
 ];
 
@@ -629,17 +646,90 @@ fn push_arrival_list(made: &mut Made) {
     push_apart(made);
 }
 
+// --------------------------------------------------------- parallel links
+
+/// One entry of lent tables changed: steps, walks and figures with each failure.
+fn push_changed(made: &mut Made, case: &str, net: &Net, tables: &Tables, d: usize) {
+    let failures = (0..net.links()).map(|link| failure_bytes(1, link as u64));
+    for failure in std::iter::once(failure_bytes(0, 0)).chain(failures) {
+        for source in (0..net.size()).filter(|&source| source != d) {
+            push_walk(made, case, (net, tables), (source as u64, d as u64), &failure, 64, 65);
+            push_step(made, case, (net, tables), (START, source as u64), d as u64, &failure);
+        }
+        made.push('F', case, &[&net.bytes(), &table_bytes(tables), &failure]);
+    }
+    // On arrival at 0 over either of the links from 1.
+    for interface in [1, 3] {
+        let none = failure_bytes(0, 0);
+        push_step(made, case, (net, tables), (ARRIVAL, interface), d as u64, &none);
+    }
+}
+
+/// Tables that name links, of a network where links 0 and 1 are 0-1, link 2 is
+/// 0-2 and links 3 and 4 are 1-2. An entry of node 0 for 2 is another: in the
+/// routing table, in the forwarding row of 1 to 0 over link 0, and in the
+/// backwarding row of 0 to 1 over link 1.
+fn push_sibling_list(made: &mut Made) {
+    let net = Net::listed(3, &parallel::TWINS);
+    let d = 2;
+    for (case, entry) in [
+        ("entry: a link there", 0),
+        ("entry: its sibling", 1),
+        ("entry: the link to the destination", 2),
+        ("entry: a link elsewhere", 3),
+        ("entry: a link elsewhere", 4),
+        ("entry: the link count", 5),
+        ("entry: past the link count", 63),
+        ("entry: past the link count", 64),
+        ("entry: past the link count", 128),
+        ("entry: 253", 253),
+        ("entry: 254", 254),
+        ("entry: 255", 255),
+    ] {
+        for (table, row) in [(0, 0), (1, 1), (2, 2)] {
+            let mut tables = straight(&net);
+            // Over the siblings, so that failed ones are met.
+            tables[0][d] = 1;
+            tables[table][row * net.size() + d] = entry;
+            push_changed(made, case, &net, &tables, d);
+        }
+    }
+}
+
 // ------------------------------------------------------------- the batch
+
+/// Shapes that stand here with weights that differ, and not also with none
+/// but 1: whole reports have both.
+const WEIGHED: [&str; 6] =
+    ["chain", "star", "tree", "complete", "separate parts", "bridges and separate parts"];
+
+/// The deliberate networks: the bench sheet, those with parallel links, and the
+/// shapes. The first 170 networks of a batch hold them all, and compare.sh counts
+/// on that.
+fn deliberate(chance: &mut Chance) -> Vec<NetCase> {
+    let mut list = net_list(chance);
+    let shapes = list.split_off(BENCH_SHEET);
+    let stays = |(name, net): &NetCase| !WEIGHED.contains(name) || net.weights.iter().any(|&weight| weight > 1);
+    let shapes: Vec<NetCase> = shapes.into_iter().filter(stays).collect();
+    list.extend(parallel::list(chance));
+    list.extend(shapes);
+    list
+}
+
+fn any_at_random(chance: &mut Chance) -> NetCase {
+    if chance.one_in(3) { parallel::at_random(chance) } else { net_at_random(chance) }
+}
 
 pub fn make(chance: &mut Chance, count: usize) -> Vec<u8> {
     let mut made = Made { batch: Vec::new(), cases: BTreeMap::new(), kinds: BTreeMap::new() };
     push_arrival_list(&mut made);
-    let mut listed = net_list(chance).into_iter();
+    push_sibling_list(&mut made);
+    let mut listed = deliberate(chance).into_iter();
     let mut names: BTreeMap<&'static str, usize> = BTreeMap::new();
     let mut walks = 0;
     let mut full = 0;
     for _ in 0..count {
-        let (name, net) = listed.next().unwrap_or_else(|| net_at_random(chance));
+        let (name, net) = listed.next().unwrap_or_else(|| any_at_random(chance));
         *names.entry(name).or_default() += 1;
         walks += (net.links() + 1) * net.size() * net.size();
         full += usize::from(net.size() == 32 && net.links() == MOST_LINKS);

@@ -147,7 +147,8 @@ fn twins(row: Row, twins: Built) {
     row("twins, key links for 0", [twins.keys_over(6, 0), twins.keys_over(8, 0)] == [1, 0]);
     row("twins, forwarding for 0", [6, 8].map(|h| twins.forwarding_over(h, 0)) == [2, 3]);
     let usual = (0, vec![0, 1, 2]);
-    let walks = [usual.clone(), (0, vec![0, 2]), usual.clone(), usual.clone(), (0, vec![0, 1, 0, 2]), usual];
+    let walks =
+        [usual.clone(), (0, vec![0, 2]), usual.clone(), usual.clone(), (0, vec![0, 1, 0, 2]), usual];
     row("twins, walks 0 to 2", twins.walks(0, 2) == walks);
     let start = |failure| twins.next(Asked::Start(1), 2, failure);
     row("twins, step", start(Failure::Link(4)) == Some((2, 6)));
