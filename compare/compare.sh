@@ -35,10 +35,12 @@ rules() {
     "$out/second" rules < "$out/$1.batch"
 }
 
-# compares whole reports, on a batch and on the example plans
+# compares whole reports, on two batches, of which the second has parallel links, and on the example plans
 reports() {
     "$out/generate" reports 1 1300 > "$out/reports.batch" &&
-        "$out/compare_reports" "sh run.sh nightplan" "$out/second report" "$out/reports.batch" plans/*.plan
+        "$out/generate" parallel 1 400 > "$out/parallel.batch" &&
+        cat "$out/reports.batch" "$out/parallel.batch" > "$out/all.batch" &&
+        "$out/compare_reports" "sh run.sh nightplan" "$out/second report" "$out/all.batch" plans/*.plan
 }
 
 # what the proved programs said of the same plans before parallel links came, they still say
@@ -67,7 +69,7 @@ if compile second/second.rs second && compile compare/generate/main.rs generate 
     check stored codec codec
     check stored answers tables
     check stored nightplan report
-    check records codec codec 2500 codec codec
+    check records codec codec 3000 codec codec
     check records answers tables "$networks" answers tables
     check rules answers
     check reports

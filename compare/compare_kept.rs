@@ -184,8 +184,8 @@ fn keep(nightplan: &str, codec: &str, plans: &[Plan]) -> Result<(), String> {
     let mut all = now(nightplan, codec, &plans.iter().collect::<Vec<_>>())?;
     all.retain(|(_, report)| !report.starts_with(NOT_KEPT));
     println!(
-        "# {} plans before L5, by compare_kept keep, from `generate reports 1 1300` and plans/: number or file, \
-         hashes of plan, report and codec's answer",
+        "# {} plans before L5, by compare_kept keep, from `generate reports 1 1300` and plans/: \
+         number or file, hashes of plan, report and codec's answer",
         all.len()
     );
     for (kept, _) in all {

@@ -29,6 +29,8 @@ const LEAST_PLANS: usize = 1000;
 const LEAST_FULL: usize = 100;
 /// Accepted plans of at most 8 nodes.
 const LEAST_SMALL: usize = 300;
+/// Accepted plans with parallel links.
+const LEAST_PARALLEL: usize = 250;
 /// The reader of stored plans gives 1 to this.
 const LAST_REFUSAL: usize = 8;
 
@@ -69,9 +71,10 @@ fn report(command: &str, plan: &[u8]) -> Result<Output, String> {
     })
 }
 
-/// What a report is about, as its first line tells it.
+/// What a report is about, as its first line tells it; and whether it names a
+/// link by its number, which only parallel links are.
 enum About {
-    Accepted { nodes: usize, links: usize },
+    Accepted { nodes: usize, links: usize, parallel: bool },
     Refused(usize),
 }
 
@@ -79,7 +82,8 @@ fn about(report: &[u8]) -> Option<About> {
     let text = std::str::from_utf8(report).ok()?;
     match text.lines().next()?.split(' ').collect::<Vec<_>>()[..] {
         ["nodes", nodes, "links", links] => {
-            Some(About::Accepted { nodes: nodes.parse().ok()?, links: links.parse().ok()? })
+            let (nodes, links) = (nodes.parse().ok()?, links.parse().ok()?);
+            Some(About::Accepted { nodes, links, parallel: text.contains('/') })
         }
         ["refused", number, "at", _] => Some(About::Refused(number.parse().ok()?)),
         _ => None,
@@ -126,6 +130,7 @@ struct Tally {
     accepted: usize,
     full: usize,
     small: usize,
+    parallel: usize,
     refused: BTreeMap<usize, usize>,
     different: usize,
 }
@@ -133,21 +138,23 @@ struct Tally {
 impl Tally {
     fn count(&mut self, about: About) {
         match about {
-            About::Accepted { nodes, links } => {
+            About::Accepted { nodes, links, parallel } => {
                 self.accepted += 1;
                 self.full += usize::from((nodes, links) == (32, 64));
                 self.small += usize::from(nodes <= 8);
+                self.parallel += usize::from(parallel);
             }
             About::Refused(number) => *self.refused.entry(number).or_default() += 1,
         }
     }
 
     fn line(&self) -> String {
-        let Tally { plans, accepted, full, small, refused, different } = self;
-        let numbers: Vec<String> = refused.iter().map(|(number, count)| format!("{number}: {count}")).collect();
+        let Tally { plans, accepted, full, small, parallel, refused, different } = self;
+        let told = |(number, count): (&usize, &usize)| format!("{number}: {count}");
+        let numbers: Vec<String> = refused.iter().map(told).collect();
         format!(
             "reports: {plans} plans, {accepted} accepted ({full} of them 32 nodes with 64 links, \
-             {small} of at most 8 nodes), {} refused ({}), {different} different",
+             {small} of at most 8 nodes, {parallel} with parallel links), {} refused ({}), {different} different",
             refused.values().sum::<usize>(),
             numbers.join(", ")
         )
@@ -159,6 +166,7 @@ impl Tally {
             ("plans".to_string(), self.plans, LEAST_PLANS),
             ("accepted plans of 32 nodes with 64 links".to_string(), self.full, LEAST_FULL),
             ("accepted plans of at most 8 nodes".to_string(), self.small, LEAST_SMALL),
+            ("accepted plans with parallel links".to_string(), self.parallel, LEAST_PARALLEL),
         ];
         for number in 1..=LAST_REFUSAL {
             let count = self.refused.get(&number).copied().unwrap_or(0);
