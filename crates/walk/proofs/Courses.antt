@@ -1,6 +1,6 @@
 -- The walk from where a packet stands, by the tests that the moves make, and what a move adds to answer and trace. Answer and trace go
 -- together: a move that crosses a link has stored its node one place on, so the rest of the walk from there is the whole.
-use Prim.Native.Nat.{ℕ, _+_, _*_, _-_, _<_}
+use Prim.Native.Nat.{ℕ, _+_, _*_, _-_, _<_, _≤_}
 use mathlib.Core.Bool.{true, false}
 use mathlib.Core.Path.{_≡_, sym, subst, _∙_}
 use mathlib.Core.Logic.{_≢_}
@@ -21,7 +21,7 @@ use Rattle.tables.specs.Lent.{LentTables}
 use Rattle.walk.specs.Lent.{hopAt}
 use Rattle.walk.specs.Walk.{endingNumber}
 use Rattle.walk.specs.inner.Ground.{Ground, rowsOn, tablesOn}
-use Rattle.walk.specs.inner.Moves.{lostEnding, movedOn, courseFrom, courseAround, Went, WentFrom}
+use Rattle.walk.specs.inner.Moves.{lostEnding, movedOn, courseFrom, courseAround, Standing, Went, WentFrom}
 use Rattle.walk.specs.declared.question.Question.{Question}
 use Rattle.walk.specs.declared.moves.Packet.{Packet}
 use Rattle.walk.specs.declared.moves.Outcome.{Outcome}
@@ -134,6 +134,17 @@ module _ {n : ℕ} {low high forwarding backwarding : List ℕ} (on : Ground n l
       let stored = set trace (packet .hops + 1) (v .0) in
       went-on N (packet .hops) trace f (v .0) enters is room
       (subst (λ (p : Packet). Went N (courseFrom (rowsOn on) (tablesOn on) question p) (p .hops) stored r after) moved went)
+
+-- A packet that has gone from where `packet` stood along working links to where `here` stands: what is known there, and that the rest of
+-- the walk is the whole, in every network and tables that the lent things belong to.
+pub record Along (n : ℕ) (low high forwarding backwarding : List ℕ) (question : Question) (packet : Packet) (before : List ℕ)
+    (here : Packet) (now : List ℕ) : Type 0 where
+  pub standing : Standing n low high forwarding backwarding question here now
+  pub same-length : length now ≡ length before
+  pub fewer : here .left ≤ packet .left
+  pub whole : (on : Ground n low high forwarding backwarding) (r : Outcome) (after : List ℕ)
+      → Went (networkOf (rowsOn on)) (courseFrom (rowsOn on) (tablesOn on) question here) (here .hops) now r after
+      → Went (networkOf (rowsOn on)) (courseFrom (rowsOn on) (tablesOn on) question packet) (packet .hops) before r after
 
 -- a whole walk from its source
 pub went-from : (N : Network) {course : Course} {r : Outcome} {after : List ℕ} (s : ℕ) (trace : List ℕ)

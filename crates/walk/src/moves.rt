@@ -1,6 +1,7 @@
-// The walk: two kinds of move in a cycle. The forwarding move meets the failed link and turns to the backwarding move, which hands the
-// packet on to the next node's forwarding move; the remaining hop limit falls at each crossed link. The moves are lent what they read and
-// no more (a walk is made 64,480 times in a report), and promise their walk for every network and tables that this belongs to.
+// The walk: two kinds of move in a cycle. The forwarding move goes along working links, in a loop; where it meets the failed link it turns
+// to the backwarding move, which crosses one link and hands the packet on to the next node's forwarding move. The remaining hop limit falls
+// at each crossed link, in either. Only the turning round is a call, since a call copies every parameter and a walk is made 64,480 times
+// in a report. The moves are lent what they read and no more, and promise their walk for every network and tables that this belongs to.
 ghost use mathlib.Core.Path.{_≡_};
 ghost use Prim.Native.Nat.{_+_, _*_};
 ghost use Rattle.graph.specs.Network.{tail};
@@ -64,6 +65,7 @@ fn moved(packet: Packet, node: Node, entry: u8) -> Packet
     }
 }
 
+// From where the packet stands: at the source, or past a link just crossed.
 fn forwarding_move(
     low: &[u8],
     high: &[u8],
@@ -79,51 +81,43 @@ fn forwarding_move(
         → Went (networkOf (rowsOn on)) (courseFrom (rowsOn on) (tablesOn on) question packet)
         (packet .hops) (now (trace .entry)) r (now (trace .exit))) ⌝ }
 {
-    if packet.node.0 == question.destination.0 {
-        return Outcome {
-            ending: DELIVERED,
-            hops: packet.hops,
+    let mut here = packet;
+    while here.node.0 != question.destination.0 {
+        if here.left == 0 {
+            return Outcome {
+                ending: EXHAUSTED,
+                hops: here.hops,
+            };
+        }
+        let Found::Next(node, f) = look_up(low, high, here.node, here.entry) else {
+            return Outcome {
+                ending: lost_ending(here.arrived),
+                hops: here.hops,
+            };
         };
+        let failure = question.failure;
+        if blocked(failure, f) {
+            return backwarding_move(
+                low,
+                high,
+                n,
+                forwarding,
+                backwarding,
+                question,
+                here,
+                f,
+                trace,
+            );
+        }
+        let next = here.hops + 1;
+        trace[next] = node.0 as u8;
+        let entry = forwarding[f.0 * n + question.destination.0];
+        here = moved(here, node, entry);
     }
-    if packet.left == 0 {
-        return Outcome {
-            ending: EXHAUSTED,
-            hops: packet.hops,
-        };
+    Outcome {
+        ending: DELIVERED,
+        hops: here.hops,
     }
-    let Found::Next(node, f) = look_up(low, high, packet.node, packet.entry) else {
-        return Outcome {
-            ending: lost_ending(packet.arrived),
-            hops: packet.hops,
-        };
-    };
-    let failure = question.failure;
-    if blocked(failure, f) {
-        return backwarding_move(
-            low,
-            high,
-            n,
-            forwarding,
-            backwarding,
-            question,
-            packet,
-            f,
-            trace,
-        );
-    }
-    let next = packet.hops + 1;
-    trace[next] = node.0 as u8;
-    let entry = forwarding[f.0 * n + question.destination.0];
-    forwarding_move(
-        low,
-        high,
-        n,
-        forwarding,
-        backwarding,
-        question,
-        moved(packet, node, entry),
-        trace,
-    )
 }
 
 // At a node whose entry leads over the failed link by interface f.
