@@ -12,7 +12,7 @@ use native.Mathlib.Omega.{arith}
 use borrow.Author.Tests.{eq-eqb, ne_eqb}
 use Rattle.graph.specs.Network.{Network, WellFormed, link, tail, head}
 use Rattle.graph.specs.Path.{Chain, stop, step, none, both}
-use Rattle.graph.specs.Entries.{Hop, onward, nowhere, Entry, at_destination, starts, lacks}
+use Rattle.graph.specs.Entries.{Free, Hop, onward, nowhere, Entry, at_destination, starts, lacks}
 use Rattle.graph.specs.Walk.{Tables, Step, crosses, nothing, drops, around, step_by, Ending, delivered, unrouted, dropped, exhausted}
 use Rattle.graph.specs.Walk.{Course, ends_by, crossing, goes_on, walk_from, walk_on, walk_of}
 use Rattle.graph.specs.Arrival.{FindsEntries, last_entry, StopsAtFailedLink}
@@ -85,6 +85,7 @@ module _ (N : Network) (W : WellFormed N) (d : ℕ) (Y : ℕ → ℕ → Type 0)
     turned : {f : ℕ} (s : Step) → tail N f ≡ i → failed (link f) ≡ true → around failed (T.backwarding f) ≡ s → Rerouted N i d s
         → Safe N failed T i d (onward f) lost s
     turned (crosses g) leaves down is (goes on) = leads on
+    turned nothing leaves down is x = elim x [ ]
     turned drops leaves down is given_up = stops refl leaves down is
 
     step_safe : {X : ℕ → Type 0} {e : Hop} → i ≢ d → Entry N X i d e → (e ≡ nowhere → NotDropped lost)
@@ -142,12 +143,12 @@ module _ (N : Network) (W : WellFormed N) (d : ℕ) (Y : ℕ → ℕ → Type 0)
         | yes at ↦ rw (eq-eqb i d at, walk_from) (ends_otherwise N failed T delivered tt)
         | no away ↦ rw (ne_eqb i d away, walk_from) (ends_otherwise N failed T exhausted tt)
       ]
-  from_entry {i = i} {e = e} (suc limit) lost entry found =
+  from_entry {X = X} {i = i} {e = e} (suc limit) lost entry found =
       elim (ℕ_discrete i d) [
         | yes at ↦ rw (eq-eqb i d at, walk_from) (ends_otherwise N failed T delivered tt)
         | no away ↦ rw (ne_eqb i d away, walk_from)
             (by_step lost limit _ (step_safe lost away entry found)
-            (λ f on there. from_entry limit dropped (right.forwarding f on.present) (λ e. absurd (there e))))
+            (λ f on there. from_entry {X = Free N d f} {i = head N f} limit dropped (right.forwarding f on.present) (λ e. absurd (there e))))
       ]
 
   module _ (s limit : ℕ) (s_node : s < N.nodes) where

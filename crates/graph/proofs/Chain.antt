@@ -69,7 +69,7 @@ module _ (N : Network) where
 
   pub chain_append : {i x d : ℕ} (a b : List ℕ) → Chain N i a x → Chain N x b d → Chain N i (a ++ b) d
   chain_append [] b (stop e) t = rw e t
-  chain_append (f ∷ a) b (step u e s) t = step u e (chain_append a b s t)
+  chain_append {i = i} {x = x} {d = d} (f ∷ a) b (step u e s) t = step u e (chain_append {i = head N f} a b s t)
 
   pub chain_back : {i d : ℕ} {p : List ℕ} → Chain N i p d → Chain N d (back p) i
   chain_back (stop e) = stop (sym e)
@@ -89,15 +89,15 @@ module _ (N : Network) where
   -- the node between two parts: where the part after it starts
   pub chain_upto : {i d : ℕ} (a : List ℕ) (f : ℕ) (b : List ℕ) → Chain N i (a ++ f ∷ b) d → Chain N i a (tail N f)
   chain_upto [] f b (step u e c) = stop (sym e)
-  chain_upto (g ∷ a) f b (step u e c) = step u e (chain_upto a f b c)
+  chain_upto {i = i} {d = d} (g ∷ a) f b (step u e c) = step u e (chain_upto {i = head N g} a f b c)
 
   pub chain_from : {i d : ℕ} (a : List ℕ) (f : ℕ) (b : List ℕ) → Chain N i (a ++ f ∷ b) d → Chain N (tail N f) (f ∷ b) d
   chain_from [] f b (step u e c) = step u refl c
-  chain_from (g ∷ a) f b (step u e c) = chain_from a f b c
+  chain_from {i = i} {d = d} (g ∷ a) f b (step u e c) = chain_from {i = head N g} a f b c
 
   pub chain_after : {i d : ℕ} (a : List ℕ) (f : ℕ) (b : List ℕ) → Chain N i (a ++ f ∷ b) d → Chain N (head N f) b d
   chain_after [] f b (step u e c) = c
-  chain_after (g ∷ a) f b (step u e c) = chain_after a f b c
+  chain_after {i = i} {d = d} (g ∷ a) f b (step u e c) = chain_after {i = head N g} a f b c
 
   module _ {X : ℕ → Type 0} where
     pub first_over : {f : ℕ} {p : List ℕ} → Over X (f ∷ p) → X (link f)

@@ -12,7 +12,7 @@ use Prim.Native.Nat.{ℕ, ◌+◌, ◌*◌, ◌<◌, ◌≤◌}
 use native.Mathlib.Omega.{arith}
 use lib.ListN.{length, length-append}
 use borrow.Author.Tests.{eq-eqb, ne_eqb}
-use Rattle.graph.specs.Network.{Network, WellFormed, link, tail}
+use Rattle.graph.specs.Network.{Network, WellFormed, link, tail, head}
 use Rattle.graph.specs.Path.{Chain, Path, visits, Lies, here, later, Over, Over.none as over_none, Over.both as over_both}
 use Rattle.graph.specs.Path.{BestPath, All, But}
 use Rattle.graph.specs.Path.{Each, Each.none as Each-none, Each.both as Each-both, Distinct, Distinct.none as Distinct-none, fresh}
@@ -68,7 +68,7 @@ module _ (N : Network) (W : WellFormed N) {d : ℕ} where
   once_both {i} (x ∷ a) f b t strays once =
       fresh
       (each_append (other_links (over_left N a (f ∷ b) (over_after N W [] x (a ++ f ∷ b) t))) (each_map leads strays))
-      (once_both a f b (best_after N [] x (a ++ f ∷ b) t) strays once)
+      (once_both {i = head N x} a f b (best_after N [] x (a ++ f ∷ b) t) strays once)
     where
       leads : (y : ℕ) → Strays N d (link f) y → x ≢ y
       leads y strays_y e =

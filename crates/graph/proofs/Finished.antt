@@ -182,7 +182,7 @@ module _ (N : Network) (X : ℕ → Type 0) (d : ℕ) (D : Column) (t : Finished
     where
       go : {x : ℕ} (p : List ℕ) → Best N X x p d → cost N p < cost N (g ∷ b) → Over P p
       go [] t h = Over.none
-      go (f ∷ p) t h = both (lower f (crosses_down [] f p t) h) (go p (best_after N [] f p t) (omega arith))
+      go {x = x} (f ∷ p) t h = both (lower f (crosses_down [] f p t) h) (go {x = head N f} p (best_after N [] f p t) (omega arith))
 
 -- a key link k of interface h, as the column E without k shows it; `routing` is read off the column of all links
 pub record KeyByColumn (N : Network) (d h k : ℕ) (E : Column) : Type 0 where

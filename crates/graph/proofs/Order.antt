@@ -9,7 +9,7 @@ use Prim.Native.Nat.{ℕ, ◌+◌, ◌*◌, ◌^◌, ◌<◌}
 use native.Mathlib.Nat.{add-mul, lt_irrefl, lt_trans}
 use native.Mathlib.Decide.{ℕ_discrete, dec_lt}
 use native.Mathlib.Omega.{arith}
-use Rattle.graph.specs.Network.{Network, WellFormed, link, tail}
+use Rattle.graph.specs.Network.{Network, WellFormed, link, tail, head}
 use Rattle.graph.specs.Set.{link_set}
 use Rattle.graph.specs.Path.{Chain, stop, step, Path, visits, weight_sum, Lies, here, later, Lacks, Better, StrictTotalOrder}
 use Rattle.graph.specs.Path.{Each, none, both, Distinct, fresh, But, Over, Over.none as over_none, Over.both as over_both}
@@ -29,6 +29,7 @@ lies_in (here e) = first (sym e)
 lies_in (later t) = further (lies_in t)
 
 pub in_lies : {k : ℕ} (p : List ℕ) → In k (map link p) → Lies k p
+in_lies [] x = elim x [ ]
 in_lies (f ∷ p) (first e) = here (sym e)
 in_lies (f ∷ p) (further t) = later (in_lies p t)
 
@@ -39,6 +40,7 @@ over_out (over_both n o) = both (Ne-symm n) (over_out o)
 
 -- a chain is over the links left in exactly if each link that lies on it is
 pub over_lies : {X : ℕ → Type 0} {k : ℕ} {p : List ℕ} → Over X p → Lies k p → X k
+over_lies over_none x = elim x [ ]
 over_lies (over_both x o) (here e) = rw e at x
 over_lies (over_both x o) (later l) = over_lies o l
 
@@ -106,6 +108,7 @@ module _ (N : Network) where
   -- a chain visits both ends of each of its links
   visits_ends : {i d k : ℕ} {p : List ℕ} (g : ℕ) → link g ≡ k → Chain N i p d → Lies k p → In (tail N g) (visits N i p)
   unfolding visits
+  visits_ends g e (stop _) x = elim x [ ]
   visits_ends g e (step {f = f} u t c) (here e₂) =
       elim (same_link g f (e ∙ sym e₂)) [
         | inl s ↦ first (ap (tail N) s ∙ t)
@@ -127,7 +130,7 @@ module _ (N : Network) where
   same_chain [] [] c s c₂ t same = refl
   same_chain [] (g ∷ q) c s c₂ t same = elim ((same (link g)).1 (here refl)) [ ]
   same_chain (f ∷ p) [] c s c₂ t same = elim ((same (link f)).0 (here refl)) [ ]
-  same_chain {e = x} (f ∷ p) (g ∷ q) (step u e c) (fresh o s) (step u₂ e₂ c₂) (fresh o₂ t) same =
+  same_chain {i = i} {d = d} {e = x} (f ∷ p) (g ∷ q) (step u e c) (fresh o s) (step u₂ e₂ c₂) (fresh o₂ t) same =
       elim (ℕ_discrete (link f) (link g)) [
         | no n ↦ absurd (away g e₂ refl c o (lies_rest ((same (link g)).1 (here refl)) n))
         | yes k ↦ elim (same_link f g k) [
@@ -137,7 +140,7 @@ module _ (N : Network) where
                 λ l. lies_rest ((same k).0 (later l)) (λ at. away g e₂ at c o l),
                 λ l. lies_rest ((same k).1 (later l)) (λ at. away f e at c₂ o₂ l),
               ) in
-              cc (eq, same_chain {e = x} p q c s (rw eq c₂) (rw eq t) others)
+              cc (eq, same_chain {i = head N f} {e = x} p q c s (rw eq c₂) (rw eq t) others)
         ]
       ]
 

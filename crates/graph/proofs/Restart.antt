@@ -53,8 +53,8 @@ module _ (N : Network) (X : ℕ → Type 0) (d : ℕ) where
   rests_of_best : {Y : ℕ → Type 0} {D : Column} → ((i : ℕ) (p : List ℕ) → Best N X i p d → Over Y p → AtMost (D i) (cost N p))
       → {i : ℕ} (p : List ℕ) → Best N X i p d → Over Y p → Rests N d D p
   rests_of_best entry {i} [] b o = ended (rw (chain_nil N b.chain) at (entry i [] b o))
-  rests_of_best entry (f ∷ p) b (both y o) =
-      rest (entry (tail N f) (f ∷ p) (best_from N [] f p b) (both y o)) (rests_of_best entry p (best_after N [] f p b) o)
+  rests_of_best entry {i} (f ∷ p) b (both y o) =
+      rest (entry (tail N f) (f ∷ p) (best_from N [] f p b) (both y o)) (rests_of_best entry {i = head N f} p (best_after N [] f p b) o)
 
   -- offers to final entries are never taken: a link with two such ends may be passed over
   pub round_final : (P P' : ℕ → Type 0) (k : ℕ) → ((l : ℕ) → P' l → P l ⊎ (l ≡ k)) → {G D₀ D : Column} → AllFinal N X d G → Falls G D₀

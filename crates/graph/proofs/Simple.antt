@@ -32,13 +32,25 @@ module _ (N : Network) (W : WellFormed N) where
       { way = r.way; path = r.path; over = r.over; cheaper = omega (arith, r.cheaper); shorter = omega (arith, r.shorter) }
 
   -- a path over X, taken from a node that it visits
+  from_visited : {X : ℕ → Type 0} {x i d : ℕ} (p vs : List ℕ) → vs ≡ visits N i p
+      → In x vs → Chain N i p d → Distinct (visits N i p) → Over X p → Cut N X x p d
+  unfolding visits
+  from_visited {x = x} {i = i} {d = d} p (y ∷ vs) same (first e) c t o =
+      let at : x ≡ i = cc in
+      let path : Path N x p d = record { chain = rw at c; once = rw at t } in
+      record { way = p; path = path; over = o; cheaper = omega arith; shorter = omega arith }
+  from_visited p [] same v c t o = elim v [ ]
+  from_visited {x = x} [] (y ∷ vs) same (further v) c t o =
+      let none_left : vs ≡ [] = cc in
+      let never : In x [] = rw none_left at v in
+      elim never [ ]
+  from_visited {i = i} (f ∷ p) (y ∷ vs) same (further v) (step u e c) (fresh n t) (both z o) =
+      let rest : vs ≡ visits N (head N f) p = cc in
+      dearer (from_visited {i = head N f} p vs rest v c t o) (omega arith) (omega arith)
+
   from_visit : {X : ℕ → Type 0} {x i d : ℕ} (p : List ℕ)
       → In x (visits N i p) → Chain N i p d → Distinct (visits N i p) → Over X p → Cut N X x p d
-  unfolding visits
-  from_visit {x = x} {d = d} p (first e) c t o =
-      let path : Path N x p d = record { chain = rw e c; once = rw e t } in
-      record { way = p; path = path; over = o; cheaper = omega arith; shorter = omega arith }
-  from_visit (f ∷ p) (further v) (step u e c) (fresh n t) (both y o) = dearer (from_visit p v c t o) (omega arith) (omega arith)
+  from_visit {i = i} p v c t o = from_visited p (visits N i p) refl v c t o
 
   -- the rest is cut first; if it comes by i, it is taken from there
   pub cut : {X : ℕ → Type 0} {i d : ℕ} {p : List ℕ} → Chain N i p d → Over X p → Cut N X i p d
@@ -69,7 +81,7 @@ module _ (N : Network) (W : WellFormed N) where
   best_visits_once [] t = fresh Each-none Distinct-none
   best_visits_once {X} {i} {d} (f ∷ p) t =
       let rest : Best N X (head N f) p d = best_after N [] f p t in
-      let once = best_visits_once p rest in
+      let once = best_visits_once {i = head N f} p rest in
       elim (in? i (visits N (head N f) p)) [
         | inl v ↦
             let r = from_visit p v rest.chain once rest.over in

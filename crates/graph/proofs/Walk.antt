@@ -82,11 +82,11 @@ module _ {N : Network} {failed : ℕ → Bool} {T : Tables} {d : ℕ} where
   goes_walk zero lost (blocked n down no_entry) room = absurd (omega arith)
   goes_walk {i} (suc limit) lost (blocked n down no_entry) room = rw (ne_eqb i d n, walk_from, down, step_by, no_entry, around)
   goes_walk zero lost (moves_on n up next w) room = absurd (omega arith)
-  goes_walk {i} (suc limit) lost (moves_on n up next w) room =
-      rw (ne_eqb i d n, walk_from, up, step_by, next, goes_walk limit _ w (omega arith))
+  goes_walk {i} (suc limit) lost (moves_on {f = f} n up next w) room =
+      rw (ne_eqb i d n, walk_from, up, step_by, next, goes_walk {i = head N f} limit _ w (omega arith))
   goes_walk zero lost (goes_round n down entry up next w) room = absurd (omega arith)
-  goes_walk {i} (suc limit) lost (goes_round n down entry up next w) room =
-      rw (ne_eqb i d n, walk_from, down, step_by, entry, around, up, next, goes_walk limit _ w (omega arith))
+  goes_walk {i} (suc limit) lost (goes_round {g = g} n down entry up next w) room =
+      rw (ne_eqb i d n, walk_from, down, step_by, entry, around, up, next, goes_walk {i = head N g} limit _ w (omega arith))
 
 -- with no entry to follow it ends where it stands
 pub lost_walk : (N : Network) (failed : ℕ → Bool) (T : Tables) {i d : ℕ} (limit : ℕ) (lost : Ending) → i ≢ d → 0 < limit
@@ -115,24 +115,24 @@ module _ (N : Network) (W : WellFormed N) (d : ℕ) (Y : ℕ → ℕ → Type 0)
   -- W1: where every link works, the walk follows the best path
   pub follows : {i : ℕ} (p : List ℕ) → Best N All i p d → Over (Works failed) p → Goes N failed T d i (hop_of p) p delivered
   follows [] t o = arrives (chain_nil N t.chain)
-  follows (f ∷ p) t (both works o) =
+  follows {i = i} (f ∷ p) t (both works o) =
       let rest = best_after N [] f p t in
       moves_on (apart N W t) works
-      (forwards_plainly (first_present N t.chain) (routing_has_no_key N W t) rest) (follows p rest o)
+      (forwards_plainly (first_present N t.chain) (routing_has_no_key N W t) rest) (follows {i = head N f} p rest o)
 
   -- W1: and else it follows it up to the link that fails
   pub follows_up_to : {i : ℕ} {p : List ℕ} {r : Ending} (a : List ℕ) (f : ℕ) (b : List ℕ) → Best N All i (a ++ f ∷ b) d
       → Over (Works failed) a → Goes N failed T d (tail N f) (onward f) p r → Goes N failed T d i (hop_of (a ++ f ∷ b)) (a ++ p) r
   follows_up_to [] f b t o w = rw (← first_tail N t.chain) w
-  follows_up_to (x ∷ a) f b t (both works o) w =
+  follows_up_to {i = i} {p = p} {r = r} (x ∷ a) f b t (both works o) w =
       let rest = best_after N [] x (a ++ f ∷ b) t in
       moves_on (apart N W t) works
-      (forwards_plainly (first_present N t.chain) (routing_has_no_key N W t) rest) (follows_up_to a f b rest o w)
+      (forwards_plainly (first_present N t.chain) (routing_has_no_key N W t) rest) (follows_up_to {i = head N x} {p = p} {r = r} a f b rest o w)
 
   module _ (l : ℕ) (only : (k : ℕ) → But l k → failed k ≡ false) where
     plain_strays : {i : ℕ} (p : List ℕ) → Best N All i p d → Over (But l) p → Each (Strays N d l) p
     plain_strays [] t o = Each-none
-    plain_strays {i} (x ∷ p) t (both n o) = Each-both here_strays (plain_strays p (best_after N [] x p t) o)
+    plain_strays {i} (x ∷ p) t (both n o) = Each-both here_strays (plain_strays {i = head N x} p (best_after N [] x p t) o)
       where
         here_strays : Strays N d l x
         here_strays rest u =
