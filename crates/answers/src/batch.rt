@@ -21,7 +21,7 @@ pub fn read_byte() -> u8 {
 }
 
 // A lent table: so many bytes from the start.
-#[derive(Drop)]
+#[derive(Clone, Copy)]
 pub struct Table {
     pub length: usize,
     pub bytes: [u8; TABLE],

@@ -1,6 +1,8 @@
 // A test program: runs best paths, key links, tables, row look-up, steps, walks and failure lines on a batch of records from standard
 // input, a line of answers for each, so that one run compares thousands of them with the second program. What records T, K, B, R, S, W, A
 // and F and their answers look like: compare/FORMAT.md. Anything else ends the run. A batch is taken to be whole: what the input lacks is 0.
+#![tactic(auto)]
+
 mod batch;
 mod hash;
 mod walks;

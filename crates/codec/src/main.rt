@@ -1,6 +1,8 @@
 // A test program: runs the reader, the check and the writer on a batch of records from standard input, a line of answers for each, so
 // that one run compares thousands of them with the second program. What records P and N and their answers look like: compare/FORMAT.md.
 // Anything else ends the run.
+#![tactic(auto)]
+
 use net::{end_at, limit};
 use text::{
     Head, RECORDS, SPARE, UNTOUCHED, decimal, front, front_room, front_weights, hex,

@@ -1,4 +1,6 @@
 // How reports name what they speak of: one function names a failure, for every report program.
+#![tactic(auto)]
+
 ghost use Rattle.std.specs.Prelude.{◌≡◌};
 ghost use Rattle.naming.specs.Name.{is_twin, has_twin, name_of};
 
@@ -6,7 +8,7 @@ use net::{Failure, Link, end_at};
 use text::{decimal, text};
 
 // Twin: one of two or more links that join the same nodes, by its ends and its own number.
-#[derive(Drop)]
+#[derive(Clone, Copy)]
 pub enum FailureName {
     NoFailure,
     Ends(usize, usize),

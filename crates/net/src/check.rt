@@ -5,7 +5,7 @@ ghost use Rattle.net.specs.Check.{bad_ends, descends, bad_weight, lighter_twin, 
 use crate::{limit, refusal};
 
 // A refusal number with its place; both are 0 where nothing is refused.
-#[derive(Drop)]
+#[derive(Clone, Copy)]
 pub struct Verdict {
     pub number: u8,
     pub place: usize,
@@ -23,7 +23,7 @@ pub fn unplaced(number: u8) -> Verdict
 
 // What a link joins and weighs. As the link before, it is what the next one is compared with; before the first link stands 0, 0, 0, which
 // nothing comes before.
-#[derive(Drop)]
+#[derive(Clone, Copy)]
 pub struct Span {
     pub low: usize,
     pub high: usize,

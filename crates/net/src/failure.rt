@@ -7,7 +7,7 @@ use crate::interface::{Interface, Link, link_of};
 use crate::refusal;
 
 // "A failure is either none or one link by number."
-#[derive(Drop)]
+#[derive(Clone, Copy)]
 pub enum Failure {
     Nothing,
     One(Link),

@@ -5,13 +5,13 @@ ghost use Rattle.net.specs.Rows.{tail_of, head_of};
 
 use crate::check::end_at;
 
-#[derive(Drop)]
+#[derive(Clone, Copy)]
 pub struct Node(pub usize);
 
-#[derive(Drop)]
+#[derive(Clone, Copy)]
 pub struct Link(pub usize);
 
-#[derive(Drop)]
+#[derive(Clone, Copy)]
 pub struct Interface(pub usize);
 
 // "Interface 2k is link k entered from the low end towards the high end; interface 2k + 1 is the other direction."

@@ -1,5 +1,7 @@
 // The network in memory: the three kinds of number, the failure, the limits, the refusal numbers, and the check that every entry
 // on a network makes first. A network in memory is its node count and three lent rows: low ends, high ends, weights.
+#![tactic(auto)]
+
 mod check;
 pub mod entry;
 mod failure;
@@ -17,7 +19,7 @@ pub use interface::{Interface, Link, Node, head_of, link_of, reverse_of, tail_of
 pub use link_set::LinkSet;
 
 // The network that a reader's answer holds: the rows' places past the last link are 0.
-#[derive(Drop)]
+#[derive(Clone, Copy)]
 pub struct Network {
     pub nodes: usize,
     pub links: usize,

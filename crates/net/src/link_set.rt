@@ -8,7 +8,7 @@ use crate::interface::Link;
 use crate::limit;
 
 // Bit k of the word is 1 exactly if link k is in the set.
-#[derive(Drop)]
+#[derive(Clone, Copy)]
 pub struct LinkSet {
     pub word: u64,
 }

@@ -1,4 +1,6 @@
 // The report program: a stored plan on standard input, the report on standard output.
+#![tactic(auto)]
+
 use libc::STDIN_FILENO;
 use naming::print_failure;
 use net::{Failure, Link, limit};

@@ -7,7 +7,7 @@ use crate::cost::known;
 use net::{Node, Verdict, check_network, entry, link_set, refusal, unplaced};
 
 // What the entry answers; after a refusal, and where there is no path, weight sum and set are 0.
-#[derive(Drop)]
+#[derive(Clone, Copy)]
 pub struct BestPath {
     pub number: u8,
     pub place: usize,

@@ -13,7 +13,7 @@ use crate::cost::{Cost, comes_before, extend, here_cost, known, no_cost};
 use net::{Link, LinkSet, Node, limit, link_set};
 
 // What one pass over a column leaves, and whether it changed a cost.
-#[derive(Drop)]
+#[derive(Clone, Copy)]
 pub struct Revised {
     pub column: [Cost; limit::NODES],
     pub changed: bool,

@@ -6,7 +6,7 @@ ghost use Rattle.paths.specs.inner.Cost.{no_cost, here_cost, is_known, before, e
 
 use net::{Link, LinkSet, link_set};
 
-#[derive(Drop)]
+#[derive(Clone, Copy)]
 pub struct Cost {
     pub links: LinkSet,
     pub sum: u32,

@@ -5,7 +5,7 @@ ghost use Rattle.plan.specs.Number.{number_at};
 
 use crate::number::{Number, read_number};
 
-#[derive(Drop)]
+#[derive(Clone, Copy)]
 pub struct Reader<'a> {
     pub bytes: &'a [u8],
     pub at: usize,

@@ -1,4 +1,6 @@
 // The stored plan: numbers in seven-bit groups, the reader and the writer.
+#![tactic(auto)]
+
 mod cursor;
 mod number;
 mod reader;

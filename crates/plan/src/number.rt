@@ -15,7 +15,7 @@ pub const GROUPS: usize = 3;
 const TWO_GROUPS: usize = BASE * BASE;
 
 // A number that was read, with the place after it; or a refusal with its place.
-#[derive(Drop)]
+#[derive(Clone, Copy)]
 pub enum Number {
     Value(u32, usize),
     Refused(u8, usize),

@@ -12,7 +12,7 @@ use crate::number::Number;
 use net::{Network, Span, bad_node_count, bad_weight, descends, lighter_twin, limit, refusal};
 
 // What the reader answers: number 0 and the network, or a refusal with its place and the one-node network without links.
-#[derive(Drop)]
+#[derive(Clone, Copy)]
 pub struct Reading {
     pub number: u8,
     pub place: usize,
@@ -20,7 +20,7 @@ pub struct Reading {
 }
 
 // One link that was read: low end, high end, weight and the place after it; or a refusal with its place.
-#[derive(Drop)]
+#[derive(Clone, Copy)]
 pub enum LinkRead {
     Got(u8, u8, u32, usize),
     Refused(u8, usize),

@@ -10,7 +10,7 @@ use crate::number::{put_number, stored_length};
 use net::{Verdict, check_network, end_at, refusal, unplaced};
 
 // What the writer answers: how many bytes it wrote, or a refusal with its place and count 0.
-#[derive(Drop)]
+#[derive(Clone, Copy)]
 pub struct Written {
     pub number: u8,
     pub place: usize,

@@ -7,7 +7,7 @@ ghost use Rattle.walk.specs.inner.Reading.{Ready};
 use net::{Failure, Node, failure_number, limit, refusal};
 use walk::inner::{DELIVERED, Outcome, Question, lent_verdict, walk_from};
 
-#[derive(Drop)]
+#[derive(Clone, Copy)]
 pub struct Line {
     pub delivered: usize,
     pub dropped: usize,
@@ -16,7 +16,7 @@ pub struct Line {
 }
 
 // What the entry answers; after a refusal every figure is 0.
-#[derive(Drop)]
+#[derive(Clone, Copy)]
 pub struct Figures {
     pub number: u8,
     pub place: usize,

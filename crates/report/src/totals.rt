@@ -9,7 +9,7 @@ use net::{Failure, Link, Verdict, limit, refusal};
 use walk::inner::lent_verdict;
 
 // Line 0 is that without failure, line k + 1 that of link k; the places past the last are 0, and so is everything after a refusal.
-#[derive(Drop)]
+#[derive(Clone, Copy)]
 pub struct Lines {
     pub number: u8,
     pub place: usize,

@@ -13,7 +13,7 @@ use paths::inner::{Cost, comes_before, here_cost, known};
 
 // The key links found so far of the interface by which the node after this one would send the packet back, and the dearest of the best
 // paths that avoid one of them each.
-#[derive(Drop)]
+#[derive(Clone, Copy)]
 pub struct Kept {
     pub keys: LinkSet,
     pub detour: Cost,

@@ -16,7 +16,7 @@ use net::{
 use paths::inner::{Cost, column_of, column_without, comes_before, known};
 
 // What the entry answers: the set of key links by link number, bit k for link k; or a refusal with its place and the empty set.
-#[derive(Drop)]
+#[derive(Clone, Copy)]
 pub struct KeyLinks {
     pub number: u8,
     pub place: usize,

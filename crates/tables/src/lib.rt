@@ -1,4 +1,6 @@
 // Key links, the builder of the three tables, and the look-up of an interface's row.
+#![tactic(auto)]
+
 mod backward;
 mod build;
 mod entry;

@@ -1,4 +1,6 @@
 // What the programs share: bytes and numbers to standard output, bytes, numbers and rows from standard input, and the front of a row.
+#![tactic(auto)]
+
 ghost use Rattle.std.specs.Prelude.{◌≡◌, take};
 ghost use Rattle.text.specs.Bytes.{shifted_by, number_of};
 
@@ -79,7 +81,7 @@ pub fn read_number(width: usize) -> usize {
 }
 
 // How a record of a batch begins (compare/FORMAT.md): its kind and the length of its fields; or there is none left.
-#[derive(Drop)]
+#[derive(Clone, Copy)]
 pub enum Head {
     Record(u8, usize),
     End,
@@ -115,7 +117,7 @@ fn low_half(n: u64) -> u32 {
 }
 
 // A network in memory as a batch has it, its rows of any length.
-#[derive(Drop)]
+#[derive(Clone, Copy)]
 pub struct Rows {
     pub nodes: usize,
     pub lows: usize,

@@ -9,7 +9,7 @@ use net::{Interface, Node, Verdict, check_network, entry, refusal, tail_of, unpl
 use tables::inner::tables_short;
 
 // An entry's answer: the next node with the interface that leads there, or nothing to follow.
-#[derive(Drop)]
+#[derive(Clone, Copy)]
 pub enum Found {
     Next(Node, Interface),
     Absent,

@@ -1,4 +1,6 @@
 // The step and the walk over three lent tables, whoever filled them.
+#![tactic(auto)]
+
 pub mod inner;
 mod lent;
 mod moves;

@@ -24,7 +24,7 @@ pub const DROPPED: u8 = 2;
 pub const EXHAUSTED: u8 = 3;
 
 // A packet on its way: where it stands, the entry that it reads there, the hops left and made, and whether it arrived over a link.
-#[derive(Drop)]
+#[derive(Clone, Copy)]
 pub struct Packet {
     pub node: Node,
     pub entry: u8,
@@ -34,7 +34,7 @@ pub struct Packet {
 }
 
 // How a walk ended and how many links it crossed.
-#[derive(Drop)]
+#[derive(Clone, Copy)]
 pub struct Outcome {
     pub ending: u8,
     pub hops: usize,

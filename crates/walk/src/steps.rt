@@ -11,14 +11,14 @@ use crate::lent::{Found, lent_verdict, look_up};
 use crate::question::Question;
 use net::{Failure, Interface, Node, blocked, failure_number, head_of, link_of, refusal};
 
-#[derive(Drop)]
+#[derive(Clone, Copy)]
 pub enum Asked {
     Start(Node),
     Arrival(Interface),
 }
 
 // What a step answers: a refusal with its place, or what document 01 says of the packet.
-#[derive(Drop)]
+#[derive(Clone, Copy)]
 pub enum Stepped {
     Refused(u8, usize),
     Delivered,

@@ -8,7 +8,7 @@ use crate::question::Question;
 use net::{Failure, Node, Verdict, failure_number, refusal, unplaced};
 
 // What the entry answers; after a refusal ending and hop count are 0.
-#[derive(Drop)]
+#[derive(Clone, Copy)]
 pub struct Walked {
     pub number: u8,
     pub place: usize,

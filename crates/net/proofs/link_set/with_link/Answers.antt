@@ -3,22 +3,14 @@ use Prim.Native.Nat.{◌*◌, ◌^◌, ◌%◌}
 use mathlib.Core.Path.{◌≡◌, ◌∙◌}
 use native.Mathlib.Nat.{one-mul}
 use native.Mathlib.Omega.{arith}
-use borrow.Author.Rules.{rules}
 use lib.Dec.{lit<}
 use lib.Pow.{shl_exact}
 use Rattle.net.specs.inner.LinkSet.{with_link}
-use Rattle.net.proofs.link_set.with_link.Statement.{statement}
-use Rattle.net.proofs.link_set.with_link.Tie as tie
+use Rattle.net.proofs.link_set.with_link.Goals as goal
 
-shl-t4 : tie.Need-overflow-shl-t4
-shl-t4 c = search rules
-
-returns : tie.Need-returns
+pub returns : goal.returns
 unfolding with_link
 returns c =
-    let k = c.before.args.link.0 in
+    let k = c.args.link.0 in
     let bit : 1 * 2 ^ k % 2 ^ 64 ≡ 2 ^ k = shl_exact {a = 1} 1 k 64 (lit< tt) (omega arith) ∙ one-mul (2 ^ k) in
     rw bit
-
-pub with-link-spec : {M : Type 1} → statement M
-with-link-spec = tie.close (tie.spec shl-t4 returns)

@@ -1,0 +1,78 @@
+use mathlib.Core.Bool.{false}
+use mathlib.Core.Path.{◌≡◌, refl, sym, ◌∙◌}
+use native.Mathlib.Numerals.{add-one}
+use borrow.Author.Rules.{rules}
+use Rattle.net.specs.Rows.{Rows}
+use Rattle.net.specs.Check.{bad_node_count, span_before}
+use Rattle.net.proofs.Faults.{fault_at, links_done, links_on, links_left}
+use Rattle.net.proofs.Faults.{high_differs, weight_differs, many_nodes, many_links, links_begin}
+use Rattle.net.proofs.check.check_network.Goals as goal
+
+pub returns-then-high-links : goal.returns-then-high-links
+returns-then-high-links c = c.unplaced.ensures ∙ sym (high_differs _ c.if-high-links.true)
+
+pub returns-then-weight-links : goal.returns-then-weight-links
+returns-then-weight-links c = c.unplaced-then-weight-links.ensures ∙ sym (weight_differs _ c.if-high-links.false c.if-weight-links.true)
+
+pub returns-then-bad_node_count : goal.returns-then-bad_node_count
+returns-then-bad_node_count c =
+    c.unplaced-then-bad_node_count.ensures
+    ∙ sym (many_nodes _ c.if-high-links.false c.if-weight-links.false (sym c.bad_node_count.ensures ∙ c.if-bad_node_count.true))
+
+pub returns-then-links-gt-LINKS : goal.returns-then-links-gt-LINKS
+returns-then-links-gt-LINKS c =
+    let few_nodes : c.bad_node_count.result ≡ false → bad_node_count c.args.n ≡ false = λ e. sym c.bad_node_count.ensures ∙ e in
+    c.unplaced-then-links-gt-LINKS.ensures
+    ∙ sym (many_links _ c.if-high-links.false c.if-weight-links.false (few_nodes c.if-bad_node_count.false) c.if-links-gt-LINKS.true)
+
+pub loop-k-init : goal.loop-k-init
+unfolding span_before
+loop-k-init c =
+    let few_nodes : c.bad_node_count.result ≡ false → bad_node_count c.args.n ≡ false = λ e. sym c.bad_node_count.ensures ∙ e in
+    record {
+      all = refl;
+      passed = search rules;
+      weights = c.if-weight-links.false;
+      last = refl;
+      rest = links_begin _ c.if-high-links.false c.if-weight-links.false (few_nodes c.if-bad_node_count.false) c.if-links-gt-LINKS.false;
+    }
+
+pub returns-then-fault-ne-NONE : goal.returns-then-fault-ne-NONE
+returns-then-fault-ne-NONE c =
+    let rows_of : Rows = let a = c.args in
+    record { nodes = a.n; low = a.low.now; high = a.high.now; weight = a.weight.now } in
+    let found : fault_at (rows_of) c.loop-k.k ≡ c.link_fault-fault.result = rw (
+      ← c.loop-k.invariant.last,
+      ← c.end_at.ensures,
+      ← c.end_at-in-loop-k.ensures,
+    )
+    (sym c.link_fault-fault.ensures) in
+    let at = c.loop-k in
+    sym (at.invariant.rest ∙ links_left _ _ at.k _ c.loop-k-test.true (found) c.if-fault-ne-NONE.true)
+
+pub loop-k-preserved : goal.loop-k-preserved
+unfolding span_before
+loop-k-preserved c =
+    let rows_of : Rows = let a = c.args in
+    record { nodes = a.n; low = a.low.now; high = a.high.now; weight = a.weight.now } in
+    let found : fault_at (rows_of) c.loop-k.k ≡ c.link_fault-fault.result = rw (
+      ← c.loop-k.invariant.last,
+      ← c.end_at.ensures,
+      ← c.end_at-in-loop-k.ensures,
+    )
+    (sym c.link_fault-fault.ensures) in
+    let at = c.loop-k in
+    record {
+      all = at.invariant.all;
+      passed = search rules;
+      weights = at.invariant.weights;
+      last = rw (add-one, c.end_at.ensures, c.end_at-in-loop-k.ensures);
+      rest =
+          at.invariant.rest
+          ∙ links_on _ _ at.k c.loop-k-test.true (found ∙ c.if-fault-ne-NONE.false);
+    }
+
+pub returns : goal.returns
+returns c =
+    let at = c.loop-k in
+    c.unplaced-2.ensures ∙ sym (at.invariant.rest ∙ links_done _ _ at.k c.loop-k-test.false)
