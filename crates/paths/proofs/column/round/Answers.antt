@@ -1,0 +1,273 @@
+use Prim.Native.Nat.{◌<◌}
+use mathlib.Core.Path.{sym, ap, ◌∙◌}
+use mathlib.Core.Logic.{inl, inr}
+use native.Mathlib.Omega.{arith}
+use lib.ListN.{length, get_or}
+use Rattle.net.specs.Limits.{most_nodes}
+use Rattle.paths.specs.declared.column.Revised.{Revised}
+use Rattle.paths.proofs.Columns.{turn_below}
+use Rattle.paths.proofs.Steps.{stored, link_offered, round_begin, round_done, round_skip, round_on}
+use Rattle.paths.proofs.column.round.Goals.{then-comes_before, else-comes_before, then-has_link+then-comes_before-2, then-has_link+else-comes_before-2, else-has_link}
+use Rattle.paths.proofs.column.round.Goals as goal
+
+pub loop-j-init : goal.loop-j-init
+loop-j-init c =
+    (c.well_formed.0.1.0.1, round_begin _ _ _ _ _ c.args.column)
+
+pub turn_of-k-requires : goal.turn_of-k-requires
+turn_of-k-requires c = c.loop-j-test.true
+
+pub bounds-low-k : goal.bounds-low-k
+bounds-low-k c =
+    let places : let args = c.args in let k = c.turn_of-k.result in
+    (k < length args.low.now) × (get_or args.low.now k 0 < most_nodes) × (get_or args.high.now k 0 < most_nodes) = let ends = c.requires.ends in
+    let below = turn_below (length c.args.low.now) c.args.upward _ c.loop-j-test.true in
+    let h : c.turn_of-k.result < length c.args.low.now = omega (arith, below, c.turn_of-k.ensures) in
+    (h, ends.low_place _ h, ends.high_place _ h) in
+    let ends = places in omega arith
+
+pub bounds-high-k : goal.bounds-high-k
+bounds-high-k c =
+    let places : let args = c.args in let k = c.turn_of-k.result in
+    (k < length args.low.now) × (get_or args.low.now k 0 < most_nodes) × (get_or args.high.now k 0 < most_nodes) = let ends = c.requires.ends in
+    let below = turn_below (length c.args.low.now) c.args.upward _ c.loop-j-test.true in
+    let h : c.turn_of-k.result < length c.args.low.now = omega (arith, below, c.turn_of-k.ensures) in
+    (h, ends.low_place _ h, ends.high_place _ h) in
+    let ends = places in omega arith
+
+pub offset_bounds-weight-k : goal.offset_bounds-weight-k
+offset_bounds-weight-k c =
+    let places : let args = c.args in let k = c.turn_of-k.result in
+    (k < length args.low.now) × (get_or args.low.now k 0 < most_nodes) × (get_or args.high.now k 0 < most_nodes) = let ends = c.requires.ends in
+    let below = turn_below (length c.args.low.now) c.args.upward _ c.loop-j-test.true in
+    let h : c.turn_of-k.result < length c.args.low.now = omega (arith, below, c.turn_of-k.ensures) in
+    (h, ends.low_place _ h, ends.high_place _ h) in
+    let ends = places in omega arith
+
+pub bounds-weight-k : goal.bounds-weight-k
+bounds-weight-k c =
+    let places : let args = c.args in let k = c.turn_of-k.result in
+    (k < length args.low.now) × (get_or args.low.now k 0 < most_nodes) × (get_or args.high.now k 0 < most_nodes) = let ends = c.requires.ends in
+    let below = turn_below (length c.args.low.now) c.args.upward _ c.loop-j-test.true in
+    let h : c.turn_of-k.result < length c.args.low.now = omega (arith, below, c.turn_of-k.ensures) in
+    (h, ends.low_place _ h, ends.high_place _ h) in
+    let ends = places in omega arith
+
+pub offset_bounds-next-y : goal.offset_bounds-next-y
+offset_bounds-next-y c =
+    let places : let args = c.args in let k = c.turn_of-k.result in
+    (k < length args.low.now) × (get_or args.low.now k 0 < most_nodes) × (get_or args.high.now k 0 < most_nodes) = let ends = c.requires.ends in
+    let below = turn_below (length c.args.low.now) c.args.upward _ c.loop-j-test.true in
+    let h : c.turn_of-k.result < length c.args.low.now = omega (arith, below, c.turn_of-k.ensures) in
+    (h, ends.low_place _ h, ends.high_place _ h) in
+    let ends = places in omega arith
+
+pub bounds-next-y : goal.bounds-next-y
+bounds-next-y c =
+    let places : let args = c.args in let k = c.turn_of-k.result in
+    (k < length args.low.now) × (get_or args.low.now k 0 < most_nodes) × (get_or args.high.now k 0 < most_nodes) = let ends = c.requires.ends in
+    let below = turn_below (length c.args.low.now) c.args.upward _ c.loop-j-test.true in
+    let h : c.turn_of-k.result < length c.args.low.now = omega (arith, below, c.turn_of-k.ensures) in
+    (h, ends.low_place _ h, ends.high_place _ h) in
+    let ends = places in omega arith
+
+pub overflow_mul-k : goal.overflow_mul-k
+overflow_mul-k c =
+    let places : let args = c.args in let k = c.turn_of-k.result in
+    (k < length args.low.now) × (get_or args.low.now k 0 < most_nodes) × (get_or args.high.now k 0 < most_nodes) = let ends = c.requires.ends in
+    let below = turn_below (length c.args.low.now) c.args.upward _ c.loop-j-test.true in
+    let h : c.turn_of-k.result < length c.args.low.now = omega (arith, below, c.turn_of-k.ensures) in
+    (h, ends.low_place _ h, ends.high_place _ h) in
+    let ends = places in omega arith
+
+pub overflow_cast-k : goal.overflow_cast-k
+overflow_cast-k c =
+    let places : let args = c.args in let k = c.turn_of-k.result in
+    (k < length args.low.now) × (get_or args.low.now k 0 < most_nodes) × (get_or args.high.now k 0 < most_nodes) = let ends = c.requires.ends in
+    let below = turn_below (length c.args.low.now) c.args.upward _ c.loop-j-test.true in
+    let h : c.turn_of-k.result < length c.args.low.now = omega (arith, below, c.turn_of-k.ensures) in
+    (h, ends.low_place _ h, ends.high_place _ h) in
+    let ends = places in omega arith
+
+pub extend-to_low-requires : goal.extend-to_low-requires
+extend-to_low-requires c =
+    let places : let args = c.args in let k = c.turn_of-k.result in
+    (k < length args.low.now) × (get_or args.low.now k 0 < most_nodes) × (get_or args.high.now k 0 < most_nodes) = let ends = c.requires.ends in
+    let below = turn_below (length c.args.low.now) c.args.upward _ c.loop-j-test.true in
+    let h : c.turn_of-k.result < length c.args.low.now = omega (arith, below, c.turn_of-k.ensures) in
+    (h, ends.low_place _ h, ends.high_place _ h) in
+    let ends = places in omega arith
+
+pub offset_bounds-next-x : goal.offset_bounds-next-x
+offset_bounds-next-x c =
+    let places : let args = c.args in let k = c.turn_of-k.result in
+    (k < length args.low.now) × (get_or args.low.now k 0 < most_nodes) × (get_or args.high.now k 0 < most_nodes) = let ends = c.requires.ends in
+    let below = turn_below (length c.args.low.now) c.args.upward _ c.loop-j-test.true in
+    let h : c.turn_of-k.result < length c.args.low.now = omega (arith, below, c.turn_of-k.ensures) in
+    (h, ends.low_place _ h, ends.high_place _ h) in
+    let ends = places in omega arith
+
+pub bounds-next-x : goal.bounds-next-x
+bounds-next-x c =
+    let places : let args = c.args in let k = c.turn_of-k.result in
+    (k < length args.low.now) × (get_or args.low.now k 0 < most_nodes) × (get_or args.high.now k 0 < most_nodes) = let ends = c.requires.ends in
+    let below = turn_below (length c.args.low.now) c.args.upward _ c.loop-j-test.true in
+    let h : c.turn_of-k.result < length c.args.low.now = omega (arith, below, c.turn_of-k.ensures) in
+    (h, ends.low_place _ h, ends.high_place _ h) in
+    let ends = places in omega arith
+
+pub offset_bounds-next-x-then-comes_before : goal.offset_bounds-next-x-then-comes_before
+offset_bounds-next-x-then-comes_before c =
+    let places : let args = c.args in let k = c.turn_of-k.result in
+    (k < length args.low.now) × (get_or args.low.now k 0 < most_nodes) × (get_or args.high.now k 0 < most_nodes) = let ends = c.requires.ends in
+    let below = turn_below (length c.args.low.now) c.args.upward _ c.loop-j-test.true in
+    let h : c.turn_of-k.result < length c.args.low.now = omega (arith, below, c.turn_of-k.ensures) in
+    (h, ends.low_place _ h, ends.high_place _ h) in
+    let ends = places in omega arith
+
+pub bounds-next-x-then-comes_before : goal.bounds-next-x-then-comes_before
+bounds-next-x-then-comes_before c =
+    let places : let args = c.args in let k = c.turn_of-k.result in
+    (k < length args.low.now) × (get_or args.low.now k 0 < most_nodes) × (get_or args.high.now k 0 < most_nodes) = let ends = c.requires.ends in
+    let below = turn_below (length c.args.low.now) c.args.upward _ c.loop-j-test.true in
+    let h : c.turn_of-k.result < length c.args.low.now = omega (arith, below, c.turn_of-k.ensures) in
+    (h, ends.low_place _ h, ends.high_place _ h) in
+    let ends = places in omega arith
+
+pub offset_bounds-next-x-then-has_link : goal.offset_bounds-next-x-then-has_link
+offset_bounds-next-x-then-has_link c =
+    let places : let args = c.args in let k = c.turn_of-k.result in
+    (k < length args.low.now) × (get_or args.low.now k 0 < most_nodes) × (get_or args.high.now k 0 < most_nodes) = let ends = c.requires.ends in
+    let below = turn_below (length c.args.low.now) c.args.upward _ c.loop-j-test.true in
+    let h : c.turn_of-k.result < length c.args.low.now = omega (arith, below, c.turn_of-k.ensures) in
+    (h, ends.low_place _ h, ends.high_place _ h) in
+    let ends = places in omega arith
+
+pub bounds-next-x-then-has_link : goal.bounds-next-x-then-has_link
+bounds-next-x-then-has_link c =
+    let places : let args = c.args in let k = c.turn_of-k.result in
+    (k < length args.low.now) × (get_or args.low.now k 0 < most_nodes) × (get_or args.high.now k 0 < most_nodes) = let ends = c.requires.ends in
+    let below = turn_below (length c.args.low.now) c.args.upward _ c.loop-j-test.true in
+    let h : c.turn_of-k.result < length c.args.low.now = omega (arith, below, c.turn_of-k.ensures) in
+    (h, ends.low_place _ h, ends.high_place _ h) in
+    let ends = places in omega arith
+
+pub overflow_mul-k-then-has_link : goal.overflow_mul-k-then-has_link
+overflow_mul-k-then-has_link c =
+    let places : let args = c.args in let k = c.turn_of-k.result in
+    (k < length args.low.now) × (get_or args.low.now k 0 < most_nodes) × (get_or args.high.now k 0 < most_nodes) = let ends = c.requires.ends in
+    let below = turn_below (length c.args.low.now) c.args.upward _ c.loop-j-test.true in
+    let h : c.turn_of-k.result < length c.args.low.now = omega (arith, below, c.turn_of-k.ensures) in
+    (h, ends.low_place _ h, ends.high_place _ h) in
+    let ends = places in omega arith
+
+pub overflow_add-k : goal.overflow_add-k
+overflow_add-k c =
+    let places : let args = c.args in let k = c.turn_of-k.result in
+    (k < length args.low.now) × (get_or args.low.now k 0 < most_nodes) × (get_or args.high.now k 0 < most_nodes) = let ends = c.requires.ends in
+    let below = turn_below (length c.args.low.now) c.args.upward _ c.loop-j-test.true in
+    let h : c.turn_of-k.result < length c.args.low.now = omega (arith, below, c.turn_of-k.ensures) in
+    (h, ends.low_place _ h, ends.high_place _ h) in
+    let ends = places in omega arith
+
+pub overflow_cast-k-then-has_link : goal.overflow_cast-k-then-has_link
+overflow_cast-k-then-has_link c =
+    let places : let args = c.args in let k = c.turn_of-k.result in
+    (k < length args.low.now) × (get_or args.low.now k 0 < most_nodes) × (get_or args.high.now k 0 < most_nodes) = let ends = c.requires.ends in
+    let below = turn_below (length c.args.low.now) c.args.upward _ c.loop-j-test.true in
+    let h : c.turn_of-k.result < length c.args.low.now = omega (arith, below, c.turn_of-k.ensures) in
+    (h, ends.low_place _ h, ends.high_place _ h) in
+    let ends = places in omega arith
+
+pub extend-to_high-requires : goal.extend-to_high-requires
+extend-to_high-requires c =
+    let places : let args = c.args in let k = c.turn_of-k.result in
+    (k < length args.low.now) × (get_or args.low.now k 0 < most_nodes) × (get_or args.high.now k 0 < most_nodes) = let ends = c.requires.ends in
+    let below = turn_below (length c.args.low.now) c.args.upward _ c.loop-j-test.true in
+    let h : c.turn_of-k.result < length c.args.low.now = omega (arith, below, c.turn_of-k.ensures) in
+    (h, ends.low_place _ h, ends.high_place _ h) in
+    let ends = places in omega arith
+
+pub offset_bounds-next-y-then-has_link : goal.offset_bounds-next-y-then-has_link
+offset_bounds-next-y-then-has_link c =
+    let places : let args = c.args in let k = c.turn_of-k.result in
+    (k < length args.low.now) × (get_or args.low.now k 0 < most_nodes) × (get_or args.high.now k 0 < most_nodes) = let ends = c.requires.ends in
+    let below = turn_below (length c.args.low.now) c.args.upward _ c.loop-j-test.true in
+    let h : c.turn_of-k.result < length c.args.low.now = omega (arith, below, c.turn_of-k.ensures) in
+    (h, ends.low_place _ h, ends.high_place _ h) in
+    let ends = places in omega arith
+
+pub bounds-next-y-then-has_link : goal.bounds-next-y-then-has_link
+bounds-next-y-then-has_link c =
+    let places : let args = c.args in let k = c.turn_of-k.result in
+    (k < length args.low.now) × (get_or args.low.now k 0 < most_nodes) × (get_or args.high.now k 0 < most_nodes) = let ends = c.requires.ends in
+    let below = turn_below (length c.args.low.now) c.args.upward _ c.loop-j-test.true in
+    let h : c.turn_of-k.result < length c.args.low.now = omega (arith, below, c.turn_of-k.ensures) in
+    (h, ends.low_place _ h, ends.high_place _ h) in
+    let ends = places in omega arith
+
+pub offset_bounds-next-y-then-comes_before-2 : goal.offset_bounds-next-y-then-comes_before-2
+offset_bounds-next-y-then-comes_before-2 c =
+    let places : let args = c.args in let k = c.turn_of-k.result in
+    (k < length args.low.now) × (get_or args.low.now k 0 < most_nodes) × (get_or args.high.now k 0 < most_nodes) = let ends = c.requires.ends in
+    let below = turn_below (length c.args.low.now) c.args.upward _ c.loop-j-test.true in
+    let h : c.turn_of-k.result < length c.args.low.now = omega (arith, below, c.turn_of-k.ensures) in
+    (h, ends.low_place _ h, ends.high_place _ h) in
+    let ends = places in omega arith
+
+pub bounds-next-y-then-comes_before-2 : goal.bounds-next-y-then-comes_before-2
+bounds-next-y-then-comes_before-2 c =
+    let places : let args = c.args in let k = c.turn_of-k.result in
+    (k < length args.low.now) × (get_or args.low.now k 0 < most_nodes) × (get_or args.high.now k 0 < most_nodes) = let ends = c.requires.ends in
+    let below = turn_below (length c.args.low.now) c.args.upward _ c.loop-j-test.true in
+    let h : c.turn_of-k.result < length c.args.low.now = omega (arith, below, c.turn_of-k.ensures) in
+    (h, ends.low_place _ h, ends.high_place _ h) in
+    let ends = places in omega arith
+
+pub loop-j-preserved : goal.loop-j-preserved
+loop-j-preserved c =
+    let args = c.args in
+    let low = args.low.now in
+    let high = args.high.now in
+    let at = c.loop-j in
+    let s : Revised = record { column = at.next; changed = at.changed } in
+    let k = c.turn_of-k.result in
+    let h = c.loop-j-test.true in
+    let whose = c.turn_of-k.ensures in
+    let asked = c.has_link.ensures in
+    let below = turn_below (length low) args.upward _ h in
+    let in_rows : k < length low = omega (arith, below, whose) in
+    let low_place = c.requires.ends.low_place _ in_rows in
+    let high_place = c.requires.ends.high_place _ in_rows in
+    elim c.if-has_link.branch [
+      | then-has_link+then-comes_before-2 w ↦
+          let first = stored (elim w.if-comes_before.branch [
+            | then-comes_before v ↦ inl (v.if-comes_before.true, v.next-is, v.changed-is)
+            | else-comes_before v ↦ inr (v.if-comes_before.false, v.next-is, v.changed-is)
+          ]) in
+          let second = stored (inl (w.if-comes_before-2.true, w.next-is, w.changed-is)) in
+          let offers = link_offered k (get_or low k 0) (get_or high k 0) _ s (omega arith) (omega arith) _ w.extend-to_low.ensures
+          w.comes_before.ensures first w.extend-to_high.ensures w.comes_before-then-has_link.ensures second in
+          let on = round_on low high args.weight.now _ args.upward at.j s h whose asked w.if-has_link.true _ offers.0 in
+          (offers.1 ∙ at.invariant.0, at.invariant.1 ∙ on)
+      | then-has_link+else-comes_before-2 w ↦
+          let first = stored (elim w.if-comes_before.branch [
+            | then-comes_before v ↦ inl (v.if-comes_before.true, v.next-is, v.changed-is)
+            | else-comes_before v ↦ inr (v.if-comes_before.false, v.next-is, v.changed-is)
+          ]) in
+          let second = stored (inr (w.if-comes_before-2.false, w.next-is, w.changed-is)) in
+          let offers = link_offered k (get_or low k 0) (get_or high k 0) _ s (omega arith) (omega arith) _ w.extend-to_low.ensures
+          w.comes_before.ensures first w.extend-to_high.ensures w.comes_before-then-has_link.ensures second in
+          let on = round_on low high args.weight.now _ args.upward at.j s h whose asked w.if-has_link.true _ offers.0 in
+          (offers.1 ∙ at.invariant.0, at.invariant.1 ∙ on)
+      | else-has_link w ↦
+          let skip = round_skip low high args.weight.now _ args.upward at.j s h whose asked w.if-has_link.false in
+          (ap length w.next-is ∙ at.invariant.0, rw (w.next-is, w.changed-is) (at.invariant.1 ∙ skip))
+    ]
+
+pub returns : goal.returns
+returns c =
+    let at = c.loop-j in
+    let args = c.args in
+    sym (at.invariant.1
+    ∙ round_done args.low.now args.high.now args.weight.now args.offering args.upward at.j _ c.loop-j-test.false)
