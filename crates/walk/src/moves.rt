@@ -65,7 +65,7 @@ fn moved(packet: Packet, node: Node, entry: u8) -> Packet
 }
 
 // From where the packet stands: at the source, or past a link just crossed.
-#[cycle(backwarding_move_forwarding_move)]
+#[cycle(moves)]
 fn forwarding_move(
     low: &[u8],
     high: &[u8],
@@ -121,7 +121,7 @@ fn forwarding_move(
 }
 
 // At a node whose entry leads over the failed link by interface f.
-#[cycle(backwarding_move_forwarding_move)]
+#[cycle(moves)]
 fn backwarding_move(
     low: &[u8],
     high: &[u8],
