@@ -1,8 +1,6 @@
 -- `read_difference` reads the number and makes the tests in the order of `difference_at`.
 use mathlib.Core.Path.{sym, ◌∙◌}
 use mathlib.Core.Logic.{inl, inr}
-use native.Mathlib.Omega.{arith}
-use borrow.Author.Tests.{leb-false}
 use Rattle.plan.proofs.Readings.{difference_unread, high_refused, order_refused, difference_read}
 use Rattle.plan.proofs.reader.read_difference.Goals as goal
 use Rattle.plan.proofs.reader.read_difference.Goals.{then-difference-eq0-via-then-difference-eq0, then-difference-eq0-via-else-difference-eq0+then-n-high}
@@ -14,9 +12,6 @@ returns-then-difference-eq0 c =
       | then-difference-eq0-via-then-difference-eq0 w ↦ inl w.if-difference-eq0.true
       | then-difference-eq0-via-else-difference-eq0+then-n-high w ↦ inr w.if-n-high.true
     ]))
-
-pub overflow_cast-high-else-descends : goal.overflow_cast-high-else-descends
-overflow_cast-high-else-descends c = omega (arith, leb-false)
 
 pub returns-in-Refused : goal.returns-in-Refused
 returns-in-Refused c =

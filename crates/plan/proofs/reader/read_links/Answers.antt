@@ -1,25 +1,15 @@
+-- At each way out of the loop, and at one more link, the answer is what `links_read` says of the links from k on.
 use Prim.Native.Nat.{◌<◌}
 use mathlib.Core.Path.{sym, ◌∙◌}
-use native.Mathlib.Nat.{sub-zero}
 use native.Mathlib.Omega.{arith}
-use borrow.Author.Rules.{rules}
 use Rattle.plan.proofs.Readings.{has_bytes_left, all_read, link_refused, link_read}
 use Rattle.plan.proofs.reader.read_links.Goals as goal
 
-pub links-init : goal.links-init
-links-init c = record { within = search rules; rest = simp sub-zero }
-
-pub links-smaller : goal.links-smaller
-links-smaller c =
-    let due : c.links.k < c.args.m = omega (arith, c.if-k-m.false) in
-    omega (arith, due)
-
 pub links-preserved : goal.links-preserved
 links-preserved c =
-    let due : c.links.k < c.args.m = omega (arith, c.if-k-m.false) in
-    let more = due in
+    let more : c.links.k < c.args.m = omega (arith, c.if-k-m.false) in
     record {
-      within = omega (arith, more);
+      within = omega arith;
       rest =
           c.links.invariant.rest
           ∙ link_read _ _ _ _ _ _ more c.read_link.ensures _ _ _ _ c.in-Got.is;
@@ -35,7 +25,7 @@ returns-else-at-s c =
 
 pub returns-in-Refused : goal.returns-in-Refused
 returns-in-Refused c =
-    let due : c.links.k < c.args.m = omega (arith, c.if-k-m.false) in
+    let more : c.links.k < c.args.m = omega (arith, c.if-k-m.false) in
     c.refused-in-Refused.ensures
     ∙ sym (c.links.invariant.rest
-    ∙ link_refused _ _ _ _ _ _ (due) c.read_link.ensures _ _ c.in-Refused.is)
+    ∙ link_refused _ _ _ _ _ _ more c.read_link.ensures _ _ c.in-Refused.is)

@@ -19,5 +19,4 @@ invariant-links l =
     From l.s l.n l.m l.first l.before l.at l.k (record { nodes = l.n; low = l.low; high = l.high; weight = l.weight })
 
 abbrev pub decreases-links : goal.decreases-links
-decreases-links l =
-    l.m - l.k
+decreases-links l = l.m - l.k

@@ -1,3 +1,4 @@
+-- No link has been counted, then one more, then all; what has been counted is no longer than a plan.
 use Prim.Native.Nat.{ℕ, ◌+◌, ◌≤◌, ◌<◌}
 use mathlib.Core.Path.{◌≡◌, refl, ap}
 use native.Mathlib.Nat.{sub-zero}
@@ -50,11 +51,10 @@ loop-k-preserved c =
     c.link_length-count.ensures
 
 pub overflow_add-count-in-loop-k : goal.overflow_add-count-in-loop-k
-overflow_add-count-in-loop-k c = omega (
-  arith,
-  short
-      (one_counted c.loop-k.invariant c.loop-k-test.true c.end_at.ensures c.end_at-in-loop-k.ensures c.link_length-count.ensures),
-)
+overflow_add-count-in-loop-k c =
+    let counted =
+    one_counted c.loop-k.invariant c.loop-k-test.true c.end_at.ensures c.end_at-in-loop-k.ensures c.link_length-count.ensures in
+    omega (arith, short counted)
 
 pub returns : goal.returns
 returns c = all_counted c.loop-k.invariant c.loop-k-test.false

@@ -1,3 +1,4 @@
+-- No link has been put, then one more, then all; the room keeps its length, so the links that are left fit.
 use Prim.Native.Nat.{ℕ, ◌+◌, ◌-◌, ◌≤◌, ◌<◌}
 use mathlib.Core.Path.{◌≡◌, refl, sym, ap, ◌∙◌}
 use mathlib.Core.List.{List, ◌++◌}
