@@ -1,6 +1,6 @@
 pub mod Sums
 pub mod Walks
 pub mod AllLines
-pub mod Figures
+pub mod LineFigures
 pub mod Answers
 pub mod Determined

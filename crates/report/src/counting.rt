@@ -78,7 +78,7 @@ fn line_from(
         source.0 line trace.old }
     ensures { result ≡ line_below n source.0
         (course_at (record { nodes = n; low = low.now; high = high.now; weight = weight.now })
-        (record { routing = routing.entry.now; forwarding = forwarding.now; backwarding = backwarding.now })
+        (record { routing = routing.now; forwarding = forwarding.now; backwarding = backwarding.now })
         failure source.0) line }
 {
     let mut sum = line;
@@ -124,7 +124,7 @@ pub fn line_of(
     requires { Ready (record { nodes = n; low = low.now; high = high.now; weight = weight.now })
         (record { routing = routing.now; forwarding = forwarding.now; backwarding = backwarding.now }) }
     ensures { result ≡ line_of (record { nodes = n; low = low.now; high = high.now; weight = weight.now })
-        (record { routing = routing.entry.now; forwarding = forwarding.now; backwarding = backwarding.now })
+        (record { routing = routing.now; forwarding = forwarding.now; backwarding = backwarding.now })
         failure }
 {
     let mut trace = [0u8; limit::REPORT_HOPS + 1];
@@ -162,7 +162,7 @@ pub fn failure_line(
 ) -> Figures
     ensures { result ≡ figures_answer
         (record { nodes = n; low = low.now; high = high.now; weight = weight.now })
-        (record { routing = routing.entry.now; forwarding = forwarding.now; backwarding = backwarding.now })
+        (record { routing = routing.now; forwarding = forwarding.now; backwarding = backwarding.now })
         failure }
 {
     let number = failure_number(low.len(), failure);

@@ -48,7 +48,7 @@ fn lines_of(
     ensures { result ≡ lines_held (length low.now)
         (lines_over (length low.now)
         (line_of (record { nodes = n; low = low.now; high = high.now; weight = weight.now })
-        (record { routing = routing.entry.now; forwarding = forwarding.now; backwarding = backwarding.now }))) }
+        (record { routing = routing.now; forwarding = forwarding.now; backwarding = backwarding.now }))) }
 {
     let none = no_walks();
     let mut lines = [none; limit::LINKS + 1];
@@ -103,7 +103,7 @@ pub fn all_lines(
     backwarding: &[u8],
 ) -> Lines
     ensures { result ≡ lines_answer (record { nodes = n; low = low.now; high = high.now; weight = weight.now })
-        (record { routing = routing.entry.now; forwarding = forwarding.now; backwarding = backwarding.now }) }
+        (record { routing = routing.now; forwarding = forwarding.now; backwarding = backwarding.now }) }
 {
     let verdict = lent_verdict(
         n,

@@ -155,7 +155,7 @@ fn build_verdict(
 ) -> Verdict
     ensures { result ≡ build_verdict
         (record { nodes = n; low = low.now; high = high.now; weight = weight.now })
-        (record { routing = routing.entry.now; forwarding = forwarding.now; backwarding = backwarding.now }) }
+        (record { routing = routing.now; forwarding = forwarding.now; backwarding = backwarding.now }) }
 {
     let verdict = check_network(n, low, high, weight);
     if verdict.number != refusal::NONE {
@@ -178,9 +178,9 @@ pub fn build_tables(
 ) -> Verdict
     ensures { BuildAnswer
         (record { nodes = n; low = low.now; high = high.now; weight = weight.now })
-        (record { routing = routing.entry.now; forwarding = forwarding.old; backwarding = backwarding.old })
+        (record { routing = routing.old; forwarding = forwarding.old; backwarding = backwarding.old })
         result
-        (record { routing = routing.exit.now; forwarding = forwarding.new; backwarding = backwarding.new }) }
+        (record { routing = routing.new; forwarding = forwarding.new; backwarding = backwarding.new }) }
 {
     let verdict = build_verdict(n, low, high, weight, routing, forwarding, backwarding);
     if verdict.number != refusal::NONE {

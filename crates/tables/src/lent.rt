@@ -13,7 +13,7 @@ pub fn tables_short(
 ) -> bool
     requires { WithinLimits n links }
     ensures { result ≡ tables_short n links
-        (record { routing = routing.entry.now; forwarding = forwarding.now; backwarding = backwarding.now }) }
+        (record { routing = routing.now; forwarding = forwarding.now; backwarding = backwarding.now }) }
 {
     if routing.len() < n * n {
         return true;

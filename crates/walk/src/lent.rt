@@ -126,7 +126,7 @@ fn tables_pass(
     requires { CheckingAll n low.now high.now
         (record { routing = routing.now; forwarding = forwarding.now; backwarding = backwarding.now }) }
     ensures { result ≡ tables_pass n low.now high.now
-        (record { routing = routing.entry.now; forwarding = forwarding.now; backwarding = backwarding.now }) }
+        (record { routing = routing.now; forwarding = forwarding.now; backwarding = backwarding.now }) }
 {
     if !routing_passes(n, low, high, routing) {
         return false;
@@ -150,7 +150,7 @@ fn tables_verdict(
     requires { Accepted (record { nodes = n; low = low.now; high = high.now; weight = weight.now }) }
     ensures { result ≡ tables_verdict
         (record { nodes = n; low = low.now; high = high.now; weight = weight.now })
-        (record { routing = routing.entry.now; forwarding = forwarding.now; backwarding = backwarding.now }) }
+        (record { routing = routing.now; forwarding = forwarding.now; backwarding = backwarding.now }) }
 {
     if tables_short(n, low.len(), routing, forwarding, backwarding) {
         return unplaced(refusal::TABLE_LENGTH);
@@ -173,7 +173,7 @@ pub fn lent_verdict(
     backwarding: &[u8],
 ) -> Verdict
     ensures { result ≡ lent_verdict (record { nodes = n; low = low.now; high = high.now; weight = weight.now })
-        (record { routing = routing.entry.now; forwarding = forwarding.now; backwarding = backwarding.now }) number }
+        (record { routing = routing.now; forwarding = forwarding.now; backwarding = backwarding.now }) number }
 {
     let verdict = check_network(n, low, high, weight);
     if verdict.number != refusal::NONE {

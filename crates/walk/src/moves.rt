@@ -189,7 +189,7 @@ pub fn walk_from(
         (network_of (record { nodes = n; low = low.now; high = high.now; weight = weight.now }))
         source.0
         (course_of (record { nodes = n; low = low.now; high = high.now; weight = weight.now })
-        (record { routing = routing.entry.now; forwarding = forwarding.now; backwarding = backwarding.now })
+        (record { routing = routing.now; forwarding = forwarding.now; backwarding = backwarding.now })
         source.0 question limit)
         trace.old result trace.new }
 {

@@ -135,7 +135,7 @@ pub fn step(
     failure: Failure,
 ) -> Stepped
     ensures { result ≡ step_answer (record { nodes = n; low = low.now; high = high.now; weight = weight.now })
-        (record { routing = routing.entry.now; forwarding = forwarding.now; backwarding = backwarding.now })
+        (record { routing = routing.now; forwarding = forwarding.now; backwarding = backwarding.now })
         asked (record { destination = destination; failure = failure }) }
 {
     let question = Question {

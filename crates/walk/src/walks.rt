@@ -49,7 +49,7 @@ fn walk_verdict(
     trace: &[u8],
 ) -> Verdict
     ensures { result ≡ walk_verdict (record { nodes = n; low = low.now; high = high.now; weight = weight.now })
-        (record { routing = routing.entry.now; forwarding = forwarding.now; backwarding = backwarding.now })
+        (record { routing = routing.now; forwarding = forwarding.now; backwarding = backwarding.now })
         source.0 question limit trace.now }
 {
     let number = walk_number(n, low.len(), source, question);
@@ -87,11 +87,11 @@ pub fn walk(
     trace: &mut [u8],
 ) -> Walked
     ensures value { result ≡ walk_answer (record { nodes = n; low = low.now; high = high.now; weight = weight.now })
-        (record { routing = routing.entry.now; forwarding = forwarding.now; backwarding = backwarding.now })
+        (record { routing = routing.now; forwarding = forwarding.now; backwarding = backwarding.now })
         source.0 (record { destination = destination; failure = failure }) limit trace.old }
     ensures trace_after { trace.new ≡ trace_after
         (record { nodes = n; low = low.now; high = high.now; weight = weight.now })
-        (record { routing = routing.entry.now; forwarding = forwarding.now; backwarding = backwarding.now })
+        (record { routing = routing.now; forwarding = forwarding.now; backwarding = backwarding.now })
         source.0 (record { destination = destination; failure = failure }) limit trace.old }
 {
     let question = Question {

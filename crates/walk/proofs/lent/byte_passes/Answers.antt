@@ -1,5 +1,4 @@
 -- The entry for the node itself, the entry that leads nowhere, and else what the look_up answers.
-use borrow.Author.Rules.{rules}
 use Rattle.walk.proofs.Hops.{own_passes, nowhere_passes, absent_fails, next_passes}
 use Rattle.walk.proofs.lent.byte_passes.Goals as goal
 

@@ -1,11 +1,10 @@
-use Prim.Native.Nat.{ℕ, ◌+◌, ◌*◌, ◌-◌, ◌≤◌}
+use Prim.Native.Nat.{ℕ, ◌+◌, ◌*◌, ◌≤◌}
 use mathlib.Core.Path.{◌≡◌, sym, ◌∙◌}
 use native.Mathlib.Omega.{arith}
 use borrow.Author.Rules.{rules}
-use borrow.Author.Tests.{not-true, not-false}
 use lib.ListN.{length}
 use Rattle.net.specs.Rows.{tail_of}
-use Rattle.walk.proofs.Below.{row_test, RowsPassed, table_is, row_within, row_as_part, below_none, below_one_more, below_fails, below_all}
+use Rattle.walk.proofs.Below.{row_test, table_is, row_within, row_as_part, below_none, below_one_more, below_fails, below_all}
 use Rattle.walk.proofs.lent.interfaces_pass.Goals as goal
 
 pub overflow_mul-interfaces : goal.overflow_mul-interfaces

@@ -1,13 +1,8 @@
 -- The loop's invariant: every row passed is accepted. A row is wholly in the table, and its deciding node is the tail of its
 -- interface by the two rows of ends that were lent for it.
-use Prim.Native.Nat.{ℕ, ◌+◌, ◌*◌, ◌-◌, ◌≤◌}
-use mathlib.Core.Path.{◌≡◌, sym, ◌∙◌}
-use native.Mathlib.Omega.{arith}
-use borrow.Author.Rules.{rules}
-use borrow.Author.Tests.{not-true, not-false}
-use lib.ListN.{length}
+use Prim.Native.Nat.{◌-◌}
 use Rattle.net.specs.Rows.{tail_of}
-use Rattle.walk.proofs.Below.{row_test, RowsPassed, table_is, row_within, row_as_part, below_none, below_one_more, below_fails, below_all}
+use Rattle.walk.proofs.Below.{RowsPassed}
 use Rattle.walk.proofs.lent.interfaces_pass.Given as goal
 
 abbrev pub invariant-loop-h : goal.invariant-loop-h

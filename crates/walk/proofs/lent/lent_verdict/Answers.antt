@@ -1,11 +1,8 @@
 -- The network, the question and the tables, in the order of the definition.
-use mathlib.Core.Path.{◌≡◌, sym, ap, ◌∙◌}
-use borrow.Author.Rules.{rules}
+use mathlib.Core.Path.{sym, ap, ◌∙◌}
 use Rattle.net.specs.Rows.{Rows}
-use Rattle.net.specs.Check.{check_network}
 use Rattle.net.proofs.Accepted.{check_accepts}
 use Rattle.tables.specs.Lent.{LentTables}
-use Rattle.walk.specs.Lent.{tables_verdict}
 use Rattle.walk.proofs.Verdicts.{number_of, network_refused, question_refused, tables_decide}
 use Rattle.walk.proofs.lent.lent_verdict.Goals as goal
 

@@ -1,7 +1,6 @@
 -- The answers of the look-up, in the order of its tests: no link, from the low end, from the high end, elsewhere. The rows of ends are as
 -- long as each other, so the link's place is in both; and a link is a byte, so its interfaces fit.
 use native.Mathlib.Omega.{arith}
-use borrow.Author.Rules.{rules}
 use Rattle.walk.proofs.Hops.{found_no_link, found_from_low, found_from_high, found_apart}
 use Rattle.walk.proofs.lent.look_up.Goals as goal
 

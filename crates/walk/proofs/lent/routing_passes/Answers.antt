@@ -1,10 +1,9 @@
-use Prim.Native.Nat.{ℕ, ◌+◌, ◌*◌, ◌-◌, ◌≤◌}
+use Prim.Native.Nat.{ℕ, ◌+◌, ◌*◌, ◌≤◌}
 use mathlib.Core.Path.{◌≡◌, refl, sym, ◌∙◌}
 use native.Mathlib.Omega.{arith}
 use borrow.Author.Rules.{rules}
-use borrow.Author.Tests.{not-true, not-false}
 use lib.ListN.{length}
-use Rattle.walk.proofs.Below.{row_test, RowsPassed, table_is, row_within, row_as_part, below_none, below_one_more, below_fails, below_all}
+use Rattle.walk.proofs.Below.{row_test, table_is, row_within, row_as_part, below_none, below_one_more, below_fails, below_all}
 use Rattle.walk.proofs.lent.routing_passes.Goals as goal
 
 pub loop-i-init : goal.loop-i-init

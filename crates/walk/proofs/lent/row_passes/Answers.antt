@@ -1,12 +1,6 @@
-use Prim.Native.Nat.{ℕ, ◌≤◌, ◌-◌}
-use mathlib.Core.Bool.{true}
 use mathlib.Core.Path.{◌≡◌, sym, ◌∙◌}
-use mathlib.Core.List.{List}
 use native.Mathlib.Omega.{arith}
 use borrow.Author.Rules.{rules}
-use borrow.Author.Tests.{not-true, not-false}
-use lib.ListN.{length}
-use Rattle.walk.specs.Lent.{all_below}
 use Rattle.walk.proofs.Below.{byte_test, row_is, below_none, below_one_more, below_fails, below_all}
 use Rattle.walk.proofs.lent.row_passes.Goals as goal
 

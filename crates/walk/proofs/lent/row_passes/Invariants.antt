@@ -1,14 +1,11 @@
 -- The loop's invariant: every byte passed is accepted.
 use Prim.Native.Nat.{ℕ, ◌≤◌, ◌-◌}
 use mathlib.Core.Bool.{true}
-use mathlib.Core.Path.{◌≡◌, sym, ◌∙◌}
+use mathlib.Core.Path.{◌≡◌}
 use mathlib.Core.List.{List}
-use native.Mathlib.Omega.{arith}
-use borrow.Author.Rules.{rules}
-use borrow.Author.Tests.{not-true, not-false}
 use lib.ListN.{length}
 use Rattle.walk.specs.Lent.{all_below}
-use Rattle.walk.proofs.Below.{byte_test, row_is, below_none, below_one_more, below_fails, below_all}
+use Rattle.walk.proofs.Below.{byte_test}
 use Rattle.walk.proofs.lent.row_passes.Given as goal
 
 -- the bytes below d have passed

@@ -2,8 +2,6 @@
 -- check of the entries asks.
 use mathlib.Core.Bool.{false}
 use mathlib.Core.Path.{◌≡◌, sym, ◌∙◌}
-use borrow.Author.Rules.{rules}
-use borrow.Author.Tests.{not-true, not-false}
 use lib.ListN.{length}
 use Rattle.net.specs.Rows.{Rows}
 use Rattle.tables.specs.Lent.{LentTables, tables_short}

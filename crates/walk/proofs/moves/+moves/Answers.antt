@@ -1,9 +1,7 @@
-use Rattle.std.proofs.Common.{ℕ, ◌≡◌, ◌+◌, ◌*◌, ◌^◌, ◌<◌, ◌≤◌, refl, sym, ◌∙◌, length, arith}
+use Rattle.std.proofs.Common.{◌≡◌, ◌+◌, ◌*◌, ◌^◌, ◌<◌, ◌≤◌, refl, sym, ◌∙◌, length, arith}
 use lib.ListN.{get_or, length-set}
 use Rattle.graph.specs.Walk.{delivered, dropped, exhausted}
 use Rattle.net.specs.Limits.{most_nodes}
-use Rattle.net.specs.declared.interface.Interface.{Interface}
-use Rattle.net.specs.declared.interface.Node.{Node}
 use Rattle.walk.specs.Walk.{ending_number}
 use Rattle.walk.specs.inner.Ground.{Ground}
 use Rattle.walk.specs.inner.Moves.{lost_ending, moved_on}
@@ -62,7 +60,7 @@ backwarding_move-returns-then-blocked t c on leaves =
     let a = c.args in
     let byte = get_or a.backwarding.now (a.f.0 * a.n + a.question.destination.0) 0 in
     let leads : (on : Ground a.n a.low.now a.high.now a.forwarding.now a.backwarding.now)
-        → grounds.Leads on a.packet.node.0 byte c.in-Next.node c.in-Next.g = λ on. grounds.leads on _ _ c.look_up.ensures _ _ c.in-Next.is in
+    → grounds.Leads on a.packet.node.0 byte c.in-Next.node c.in-Next.g = λ on. grounds.leads on _ _ c.look_up.ensures _ _ c.in-Next.is in
     went_ends _ _ _ dropped _ dropped_number
     (turned_drops on _ _ _ leaves _ (leads on).entry (sym c.blocked.ensures ∙ c.if-blocked.true))
 
@@ -77,7 +75,7 @@ backwarding_move-overflow_cast-trace t c =
     let a = c.args in
     let byte = get_or a.backwarding.now (a.f.0 * a.n + a.question.destination.0) 0 in
     let leads : (on : Ground a.n a.low.now a.high.now a.forwarding.now a.backwarding.now)
-        → grounds.Leads on a.packet.node.0 byte c.in-Next.node c.in-Next.g = λ on. grounds.leads on _ _ c.look_up.ensures _ _ c.in-Next.is in
+    → grounds.Leads on a.packet.node.0 byte c.in-Next.node c.in-Next.g = λ on. grounds.leads on _ _ c.look_up.ensures _ _ c.in-Next.is in
     let standing = c.requires.standing in
     let known : grounds.Leads standing.ground a.packet.node.0 byte c.in-Next.node c.in-Next.g = leads standing.ground in
     let few : a.n ≤ most_nodes = grounds.few_nodes standing.ground in
@@ -92,7 +90,7 @@ backwarding_move-overflow_mul-entry t c =
     let a = c.args in
     let byte = get_or a.backwarding.now (a.f.0 * a.n + a.question.destination.0) 0 in
     let leads : (on : Ground a.n a.low.now a.high.now a.forwarding.now a.backwarding.now)
-        → grounds.Leads on a.packet.node.0 byte c.in-Next.node c.in-Next.g = λ on. grounds.leads on _ _ c.look_up.ensures _ _ c.in-Next.is in
+    → grounds.Leads on a.packet.node.0 byte c.in-Next.node c.in-Next.g = λ on. grounds.leads on _ _ c.look_up.ensures _ _ c.in-Next.is in
     let standing = c.requires.standing in
     let known : grounds.Leads standing.ground a.packet.node.0 byte c.in-Next.node c.in-Next.g = leads standing.ground in
     let few : a.n ≤ most_nodes = grounds.few_nodes standing.ground in
@@ -104,7 +102,7 @@ backwarding_move-overflow_add-entry t c =
     let a = c.args in
     let byte = get_or a.backwarding.now (a.f.0 * a.n + a.question.destination.0) 0 in
     let leads : (on : Ground a.n a.low.now a.high.now a.forwarding.now a.backwarding.now)
-        → grounds.Leads on a.packet.node.0 byte c.in-Next.node c.in-Next.g = λ on. grounds.leads on _ _ c.look_up.ensures _ _ c.in-Next.is in
+    → grounds.Leads on a.packet.node.0 byte c.in-Next.node c.in-Next.g = λ on. grounds.leads on _ _ c.look_up.ensures _ _ c.in-Next.is in
     let standing = c.requires.standing in
     let known : grounds.Leads standing.ground a.packet.node.0 byte c.in-Next.node c.in-Next.g = leads standing.ground in
     let few : a.n ≤ most_nodes = grounds.few_nodes standing.ground in
@@ -116,7 +114,7 @@ backwarding_move-bounds-forwarding-g t c =
     let a = c.args in
     let byte = get_or a.backwarding.now (a.f.0 * a.n + a.question.destination.0) 0 in
     let leads : (on : Ground a.n a.low.now a.high.now a.forwarding.now a.backwarding.now)
-        → grounds.Leads on a.packet.node.0 byte c.in-Next.node c.in-Next.g = λ on. grounds.leads on _ _ c.look_up.ensures _ _ c.in-Next.is in
+    → grounds.Leads on a.packet.node.0 byte c.in-Next.node c.in-Next.g = λ on. grounds.leads on _ _ c.look_up.ensures _ _ c.in-Next.is in
     let standing = c.requires.standing in
     let known : grounds.Leads standing.ground a.packet.node.0 byte c.in-Next.node c.in-Next.g = leads standing.ground in
     let few : a.n ≤ most_nodes = grounds.few_nodes standing.ground in
@@ -136,7 +134,7 @@ backwarding_move-forwarding_move-requires t c =
     let a = c.args in
     let byte = get_or a.backwarding.now (a.f.0 * a.n + a.question.destination.0) 0 in
     let leads : (on : Ground a.n a.low.now a.high.now a.forwarding.now a.backwarding.now)
-        → grounds.Leads on a.packet.node.0 byte c.in-Next.node c.in-Next.g = λ on. grounds.leads on _ _ c.look_up.ensures _ _ c.in-Next.is in
+    → grounds.Leads on a.packet.node.0 byte c.in-Next.node c.in-Next.g = λ on. grounds.leads on _ _ c.look_up.ensures _ _ c.in-Next.is in
     let standing = c.requires.standing in
     let known : grounds.Leads standing.ground a.packet.node.0 byte c.in-Next.node c.in-Next.g = leads standing.ground in
     let few : a.n ≤ most_nodes = grounds.few_nodes standing.ground in
@@ -160,7 +158,7 @@ backwarding_move-returns t c on leaves =
     let a = c.args in
     let byte = get_or a.backwarding.now (a.f.0 * a.n + a.question.destination.0) 0 in
     let leads : (on : Ground a.n a.low.now a.high.now a.forwarding.now a.backwarding.now)
-        → grounds.Leads on a.packet.node.0 byte c.in-Next.node c.in-Next.g = λ on. grounds.leads on _ _ c.look_up.ensures _ _ c.in-Next.is in
+    → grounds.Leads on a.packet.node.0 byte c.in-Next.node c.in-Next.g = λ on. grounds.leads on _ _ c.look_up.ensures _ _ c.in-Next.is in
     went_over on a.question a.packet c.moved.result c.in-Next.node c.in-Next.g.0
     (turned_on on _ _ _ leaves _ (leads on).entry _ (leads on).enters (sym c.blocked.ensures ∙ c.if-blocked.false))
     c.moved.ensures (leads on).enters (omega (arith, c.requires.standing.room, c.requires.some))
@@ -192,10 +190,9 @@ forwarding_move-backwarding_move-requires t c =
     let here = c.loop-here.here in
     let standing = c.loop-here.invariant.standing in
     let leads : (on : Ground a.n a.low.now a.high.now a.forwarding.now a.backwarding.now)
-        → grounds.Leads on here.node.0 here.entry c.in-Next.node c.in-Next.f = λ on. grounds.leads on _ _ c.look_up.ensures _ _ c.in-Next.is in
+    → grounds.Leads on here.node.0 here.entry c.in-Next.node c.in-Next.f = λ on. grounds.leads on _ _ c.look_up.ensures _ _ c.in-Next.is in
     let known : grounds.Leads standing.ground here.node.0 here.entry c.in-Next.node c.in-Next.f = leads standing.ground in
-    let few : a.n ≤ most_nodes = grounds.few_nodes standing.ground in
-    (
+    let few : a.n ≤ most_nodes = grounds.few_nodes standing.ground in (
       omega (arith, c.decreases, c.loop-here.invariant.fewer),
       record { standing = standing; some = omega (arith, c.if-here-eq0.false); interface = known.below },
     )
@@ -206,7 +203,7 @@ forwarding_move-returns-then-blocked t c on =
     let here = c.loop-here.here in
     let standing = c.loop-here.invariant.standing in
     let leads : (on : Ground a.n a.low.now a.high.now a.forwarding.now a.backwarding.now)
-        → grounds.Leads on here.node.0 here.entry c.in-Next.node c.in-Next.f = λ on. grounds.leads on _ _ c.look_up.ensures _ _ c.in-Next.is in
+    → grounds.Leads on here.node.0 here.entry c.in-Next.node c.in-Next.f = λ on. grounds.leads on _ _ c.look_up.ensures _ _ c.in-Next.is in
     c.loop-here.invariant.whole on _ _
     (went_same _ _ _
     (course_turns on a.question here c.loop-here-test.true c.if-here-eq0.false c.in-Next.f.0 (leads on).entry
@@ -228,7 +225,7 @@ forwarding_move-overflow_cast-trace t c =
     let here = c.loop-here.here in
     let standing = c.loop-here.invariant.standing in
     let leads : (on : Ground a.n a.low.now a.high.now a.forwarding.now a.backwarding.now)
-        → grounds.Leads on here.node.0 here.entry c.in-Next.node c.in-Next.f = λ on. grounds.leads on _ _ c.look_up.ensures _ _ c.in-Next.is in
+    → grounds.Leads on here.node.0 here.entry c.in-Next.node c.in-Next.f = λ on. grounds.leads on _ _ c.look_up.ensures _ _ c.in-Next.is in
     let known : grounds.Leads standing.ground here.node.0 here.entry c.in-Next.node c.in-Next.f = leads standing.ground in
     let few : a.n ≤ most_nodes = grounds.few_nodes standing.ground in
     omega (arith, known.node, few)
@@ -243,7 +240,7 @@ forwarding_move-overflow_mul-entry t c =
     let here = c.loop-here.here in
     let standing = c.loop-here.invariant.standing in
     let leads : (on : Ground a.n a.low.now a.high.now a.forwarding.now a.backwarding.now)
-        → grounds.Leads on here.node.0 here.entry c.in-Next.node c.in-Next.f = λ on. grounds.leads on _ _ c.look_up.ensures _ _ c.in-Next.is in
+    → grounds.Leads on here.node.0 here.entry c.in-Next.node c.in-Next.f = λ on. grounds.leads on _ _ c.look_up.ensures _ _ c.in-Next.is in
     let known : grounds.Leads standing.ground here.node.0 here.entry c.in-Next.node c.in-Next.f = leads standing.ground in
     let few : a.n ≤ most_nodes = grounds.few_nodes standing.ground in
     let table : length a.forwarding.now < 2 ^ 64 = omega arith in
@@ -255,7 +252,7 @@ forwarding_move-overflow_add-entry t c =
     let here = c.loop-here.here in
     let standing = c.loop-here.invariant.standing in
     let leads : (on : Ground a.n a.low.now a.high.now a.forwarding.now a.backwarding.now)
-        → grounds.Leads on here.node.0 here.entry c.in-Next.node c.in-Next.f = λ on. grounds.leads on _ _ c.look_up.ensures _ _ c.in-Next.is in
+    → grounds.Leads on here.node.0 here.entry c.in-Next.node c.in-Next.f = λ on. grounds.leads on _ _ c.look_up.ensures _ _ c.in-Next.is in
     let known : grounds.Leads standing.ground here.node.0 here.entry c.in-Next.node c.in-Next.f = leads standing.ground in
     let few : a.n ≤ most_nodes = grounds.few_nodes standing.ground in
     let table : length a.forwarding.now < 2 ^ 64 = omega arith in
@@ -267,7 +264,7 @@ forwarding_move-bounds-forwarding-f t c =
     let here = c.loop-here.here in
     let standing = c.loop-here.invariant.standing in
     let leads : (on : Ground a.n a.low.now a.high.now a.forwarding.now a.backwarding.now)
-        → grounds.Leads on here.node.0 here.entry c.in-Next.node c.in-Next.f = λ on. grounds.leads on _ _ c.look_up.ensures _ _ c.in-Next.is in
+    → grounds.Leads on here.node.0 here.entry c.in-Next.node c.in-Next.f = λ on. grounds.leads on _ _ c.look_up.ensures _ _ c.in-Next.is in
     let known : grounds.Leads standing.ground here.node.0 here.entry c.in-Next.node c.in-Next.f = leads standing.ground in
     let few : a.n ≤ most_nodes = grounds.few_nodes standing.ground in
     grounds.place_within _ _ _ _ known.row standing.destination
@@ -296,7 +293,7 @@ forwarding_move-loop-here-preserved t c =
     let here = c.loop-here.here in
     let standing = c.loop-here.invariant.standing in
     let leads : (on : Ground a.n a.low.now a.high.now a.forwarding.now a.backwarding.now)
-        → grounds.Leads on here.node.0 here.entry c.in-Next.node c.in-Next.f = λ on. grounds.leads on _ _ c.look_up.ensures _ _ c.in-Next.is in
+    → grounds.Leads on here.node.0 here.entry c.in-Next.node c.in-Next.f = λ on. grounds.leads on _ _ c.look_up.ensures _ _ c.in-Next.is in
     let known : grounds.Leads standing.ground here.node.0 here.entry c.in-Next.node c.in-Next.f = leads standing.ground in
     let few : a.n ≤ most_nodes = grounds.few_nodes standing.ground in
     let so_far = c.loop-here.invariant in

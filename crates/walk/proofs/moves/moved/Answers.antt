@@ -1,6 +1,5 @@
 -- The packet is made anew, field by field as the definition has it.
 use mathlib.Core.Path.{refl}
-use borrow.Author.Rules.{rules}
 use Rattle.walk.specs.inner.Moves.{moved_on}
 use Rattle.walk.proofs.moves.moved.Goals as goal
 

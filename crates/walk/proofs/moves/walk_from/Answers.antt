@@ -1,10 +1,8 @@
 -- The source is stored first, and the forwarding move goes on from there with the routing entry.
 use Prim.Native.Nat.{◌+◌, ◌*◌, ◌^◌, ◌<◌, ◌≤◌}
-use mathlib.Core.Path.{◌∙◌}
 use native.Mathlib.Omega.{arith}
 use lib.ListN.{length, length-set}
 use Rattle.graph.specs.Walk.{walk_of}
-use Rattle.net.specs.Limits.{most_nodes}
 use Rattle.walk.specs.Lent.{tables_for}
 use Rattle.walk.specs.Walk.{course_of}
 use Rattle.walk.specs.inner.Ground.{Ground}

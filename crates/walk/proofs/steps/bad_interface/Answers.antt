@@ -1,6 +1,5 @@
 -- At a start no interface is asked for; on arrival its link is held against the link count.
 use mathlib.Core.Path.{sym}
-use borrow.Author.Rules.{rules}
 use Rattle.walk.proofs.Asking.{start_enters_none, arrival_enters}
 use Rattle.walk.proofs.steps.bad_interface.Goals as goal
 

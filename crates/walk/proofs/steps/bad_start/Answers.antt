@@ -1,6 +1,5 @@
 -- At a start the node is held against the node count; on arrival no node is asked for.
 use mathlib.Core.Path.{sym}
-use borrow.Author.Rules.{rules}
 use Rattle.walk.proofs.Asking.{start_at, arrival_starts_none}
 use Rattle.walk.proofs.steps.bad_start.Goals as goal
 

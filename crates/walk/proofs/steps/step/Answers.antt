@@ -3,7 +3,6 @@
 use Prim.Native.Nat.{ℕ, ◌+◌, ◌*◌, ◌^◌, ◌<◌, ◌≤◌}
 use mathlib.Core.Path.{◌≡◌, sym, ap, ◌∙◌}
 use native.Mathlib.Omega.{arith}
-use borrow.Author.Rules.{rules}
 use lib.ListN.{length}
 use mathlib.Core.List.{List}
 use Rattle.net.specs.declared.interface.Interface.{Interface}
@@ -79,9 +78,8 @@ returns-then-verdict-ne-NONE c =
     let question : Question = record { destination = a.destination; failure = a.failure } in
     let verdict = c.lent_verdict-verdict.result in
     let judged : verdict ≡ lent_verdict R T (step_number R.nodes (length R.low) a.asked question) =
-        c.lent_verdict-verdict.ensures ∙ ap (lent_verdict R T) c.step_number-number.ensures in
+    c.lent_verdict-verdict.ensures ∙ ap (lent_verdict R T) c.step_number-number.ensures in
     step_refused R T a.asked question judged c.if-verdict-ne-NONE.true
-
 
 pub overflow_mul-i : goal.overflow_mul-i
 overflow_mul-i c =
@@ -91,11 +89,10 @@ overflow_mul-i c =
     let question : Question = record { destination = a.destination; failure = a.failure } in
     let verdict = c.lent_verdict-verdict.result in
     let judged : verdict ≡ lent_verdict R T (step_number R.nodes (length R.low) a.asked question) =
-        c.lent_verdict-verdict.ensures ∙ ap (lent_verdict R T) c.step_number-number.ensures in
+    c.lent_verdict-verdict.ensures ∙ ap (lent_verdict R T) c.step_number-number.ensures in
     let free = c.if-verdict-ne-NONE.false in
     let table : length T.routing < 2 ^ 64 = omega arith in
     row_fits _ _ _ (routing_row R T a.asked question verdict judged free c.in-Start.i c.in-Start.is) table
-
 
 pub overflow_add-i : goal.overflow_add-i
 overflow_add-i c =
@@ -105,11 +102,10 @@ overflow_add-i c =
     let question : Question = record { destination = a.destination; failure = a.failure } in
     let verdict = c.lent_verdict-verdict.result in
     let judged : verdict ≡ lent_verdict R T (step_number R.nodes (length R.low) a.asked question) =
-        c.lent_verdict-verdict.ensures ∙ ap (lent_verdict R T) c.step_number-number.ensures in
+    c.lent_verdict-verdict.ensures ∙ ap (lent_verdict R T) c.step_number-number.ensures in
     let free = c.if-verdict-ne-NONE.false in
     let table : length T.routing < 2 ^ 64 = omega arith in
     place_fits _ _ _ _ (routing_row R T a.asked question verdict judged free c.in-Start.i c.in-Start.is) (destination R T a.asked question verdict judged free) table
-
 
 pub bounds-routing-i : goal.bounds-routing-i
 bounds-routing-i c =
@@ -119,10 +115,9 @@ bounds-routing-i c =
     let question : Question = record { destination = a.destination; failure = a.failure } in
     let verdict = c.lent_verdict-verdict.result in
     let judged : verdict ≡ lent_verdict R T (step_number R.nodes (length R.low) a.asked question) =
-        c.lent_verdict-verdict.ensures ∙ ap (lent_verdict R T) c.step_number-number.ensures in
+    c.lent_verdict-verdict.ensures ∙ ap (lent_verdict R T) c.step_number-number.ensures in
     let free = c.if-verdict-ne-NONE.false in
     place_within _ _ _ _ (routing_row R T a.asked question verdict judged free c.in-Start.i c.in-Start.is) (destination R T a.asked question verdict judged free)
-
 
 pub step_at-requires : goal.step_at-requires
 step_at-requires c =
@@ -132,10 +127,9 @@ step_at-requires c =
     let question : Question = record { destination = a.destination; failure = a.failure } in
     let verdict = c.lent_verdict-verdict.result in
     let judged : verdict ≡ lent_verdict R T (step_number R.nodes (length R.low) a.asked question) =
-        c.lent_verdict-verdict.ensures ∙ ap (lent_verdict R T) c.step_number-number.ensures in
+    c.lent_verdict-verdict.ensures ∙ ap (lent_verdict R T) c.step_number-number.ensures in
     let free = c.if-verdict-ne-NONE.false in
     record { ground = ground R T a.asked question verdict judged free; destination = destination R T a.asked question verdict judged free; node = node_below R T a.asked question verdict judged free c.in-Start.i c.in-Start.is }
-
 
 pub overflow_mul-h : goal.overflow_mul-h
 overflow_mul-h c =
@@ -145,11 +139,10 @@ overflow_mul-h c =
     let question : Question = record { destination = a.destination; failure = a.failure } in
     let verdict = c.lent_verdict-verdict.result in
     let judged : verdict ≡ lent_verdict R T (step_number R.nodes (length R.low) a.asked question) =
-        c.lent_verdict-verdict.ensures ∙ ap (lent_verdict R T) c.step_number-number.ensures in
+    c.lent_verdict-verdict.ensures ∙ ap (lent_verdict R T) c.step_number-number.ensures in
     let free = c.if-verdict-ne-NONE.false in
     let table : length T.forwarding < 2 ^ 64 = omega arith in
     row_fits _ _ _ (forwarding_row R T a.asked question verdict judged free c.in-Arrival.h c.in-Arrival.is) table
-
 
 pub overflow_add-h : goal.overflow_add-h
 overflow_add-h c =
@@ -159,11 +152,10 @@ overflow_add-h c =
     let question : Question = record { destination = a.destination; failure = a.failure } in
     let verdict = c.lent_verdict-verdict.result in
     let judged : verdict ≡ lent_verdict R T (step_number R.nodes (length R.low) a.asked question) =
-        c.lent_verdict-verdict.ensures ∙ ap (lent_verdict R T) c.step_number-number.ensures in
+    c.lent_verdict-verdict.ensures ∙ ap (lent_verdict R T) c.step_number-number.ensures in
     let free = c.if-verdict-ne-NONE.false in
     let table : length T.forwarding < 2 ^ 64 = omega arith in
     place_fits _ _ _ _ (forwarding_row R T a.asked question verdict judged free c.in-Arrival.h c.in-Arrival.is) (destination R T a.asked question verdict judged free) table
-
 
 pub bounds-forwarding-h : goal.bounds-forwarding-h
 bounds-forwarding-h c =
@@ -173,10 +165,9 @@ bounds-forwarding-h c =
     let question : Question = record { destination = a.destination; failure = a.failure } in
     let verdict = c.lent_verdict-verdict.result in
     let judged : verdict ≡ lent_verdict R T (step_number R.nodes (length R.low) a.asked question) =
-        c.lent_verdict-verdict.ensures ∙ ap (lent_verdict R T) c.step_number-number.ensures in
+    c.lent_verdict-verdict.ensures ∙ ap (lent_verdict R T) c.step_number-number.ensures in
     let free = c.if-verdict-ne-NONE.false in
     place_within _ _ _ _ (forwarding_row R T a.asked question verdict judged free c.in-Arrival.h c.in-Arrival.is) (destination R T a.asked question verdict judged free)
-
 
 pub step_at-requires-in-Arrival : goal.step_at-requires-in-Arrival
 step_at-requires-in-Arrival c =
@@ -186,11 +177,10 @@ step_at-requires-in-Arrival c =
     let question : Question = record { destination = a.destination; failure = a.failure } in
     let verdict = c.lent_verdict-verdict.result in
     let judged : verdict ≡ lent_verdict R T (step_number R.nodes (length R.low) a.asked question) =
-        c.lent_verdict-verdict.ensures ∙ ap (lent_verdict R T) c.step_number-number.ensures in
+    c.lent_verdict-verdict.ensures ∙ ap (lent_verdict R T) c.step_number-number.ensures in
     let free = c.if-verdict-ne-NONE.false in
     let is_head : c.head_of.result.0 ≡ head (network_of R) c.in-Arrival.h.0 = c.head_of.ensures ∙ sym (head_of_lem R c.in-Arrival.h.0) in
     record { ground = ground R T a.asked question verdict judged free; destination = destination R T a.asked question verdict judged free; node = rw is_head (head_node R T a.asked question verdict judged free c.in-Arrival.h c.in-Arrival.is) }
-
 
 pub returns-in-Start : goal.returns-in-Start
 returns-in-Start c =
@@ -200,12 +190,11 @@ returns-in-Start c =
     let question : Question = record { destination = a.destination; failure = a.failure } in
     let verdict = c.lent_verdict-verdict.result in
     let judged : verdict ≡ lent_verdict R T (step_number R.nodes (length R.low) a.asked question) =
-        c.lent_verdict-verdict.ensures ∙ ap (lent_verdict R T) c.step_number-number.ensures in
+    c.lent_verdict-verdict.ensures ∙ ap (lent_verdict R T) c.step_number-number.ensures in
     let free = c.if-verdict-ne-NONE.false in
     c.step_at.ensures (ground R T a.asked question verdict judged free)
     ∙ start_steps R T _ question _ c.in-Start.is
     ∙ step_taken R T _ question judged free
-
 
 pub returns-in-Arrival : goal.returns-in-Arrival
 returns-in-Arrival c =
@@ -215,10 +204,9 @@ returns-in-Arrival c =
     let question : Question = record { destination = a.destination; failure = a.failure } in
     let verdict = c.lent_verdict-verdict.result in
     let judged : verdict ≡ lent_verdict R T (step_number R.nodes (length R.low) a.asked question) =
-        c.lent_verdict-verdict.ensures ∙ ap (lent_verdict R T) c.step_number-number.ensures in
+    c.lent_verdict-verdict.ensures ∙ ap (lent_verdict R T) c.step_number-number.ensures in
     let free = c.if-verdict-ne-NONE.false in
     let is_head : c.head_of.result.0 ≡ head (network_of R) c.in-Arrival.h.0 = c.head_of.ensures ∙ sym (head_of_lem R c.in-Arrival.h.0) in
     c.step_at-in-Arrival.ensures (ground R T a.asked question verdict judged free)
     ∙ arrival_steps R T _ question _ _ c.in-Arrival.is is_head
     ∙ step_taken R T _ question judged free
-

@@ -1,10 +1,6 @@
 -- The step at a node: at the destination it is delivered; else the entry is looked up, and its link is crossed or turned from.
 use mathlib.Core.Path.{sym, ◌∙◌}
-use mathlib.Core.Logic.{◌≢◌}
-use borrow.Author.Rules.{rules}
-use Rattle.net.specs.declared.interface.Interface.{Interface}
-use Rattle.net.specs.declared.interface.Node.{Node}
-use Rattle.walk.specs.inner.Ground.{Ground, rows_on, tables_on}
+use Rattle.walk.specs.inner.Ground.{rows_on, tables_on}
 use Rattle.walk.proofs.Grounds as grounds
 use Rattle.walk.proofs.Stepping.{step_delivered, step_lost, step_turns, step_crosses}
 use Rattle.walk.proofs.steps.step_at.Goals as goal

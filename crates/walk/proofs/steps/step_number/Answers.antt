@@ -1,6 +1,5 @@
 -- `step_number` makes the tests in the order of `step_number`.
 use mathlib.Core.Path.{sym}
-use borrow.Author.Rules.{rules}
 use borrow.Author.Tests.{le-leb, lt-leb}
 use Rattle.net.proofs.Verdicts.{number_first, number_second}
 use Rattle.walk.specs.Step.{step_number}

@@ -1,12 +1,9 @@
 -- One verdict and one branch. Where nothing is refused, network, question and tables are as the walk asks, and what it made is the answer.
-use Prim.Native.Nat.{◌<◌}
 use mathlib.Core.Path.{◌≡◌, refl}
-use borrow.Author.Rules.{rules}
 use lib.ListN.{length}
 use Rattle.net.specs.Refusals.{accepted}
 use Rattle.net.specs.Rows.{Rows}
-use Rattle.net.specs.Check.{Accepted}
-use Rattle.tables.specs.Lent.{LentTables, LongEnough}
+use Rattle.tables.specs.Lent.{LentTables}
 use Rattle.walk.specs.Lent.{lent_verdict}
 use Rattle.walk.specs.Walk.{walk_number, walk_verdict}
 use Rattle.walk.specs.declared.question.Question.{Question}
@@ -34,7 +31,7 @@ walk_from-outcome-requires c =
     let judged : c.walk_verdict-verdict.result ≡ walk_verdict R T a.source.0 question a.limit a.trace.now = c.walk_verdict-verdict.ensures in
     let fine = c.if-verdict-ne-NONE.false in
     let lent : (lent_verdict R T (walk_number R.nodes (length R.low) a.source.0 question)).number ≡ accepted =
-        walk_lent R T _ question _ _ judged fine in
+    walk_lent R T _ question _ _ judged fine in
     let taken : walk_number R.nodes (length R.low) a.source.0 question ≡ accepted = question_taken R T _ refl lent in
     record {
       ready = record { network = lent_network R T _ refl lent; long = lent_long R T _ refl lent };

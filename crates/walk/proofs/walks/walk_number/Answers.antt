@@ -1,10 +1,6 @@
 -- `walk_number` makes the tests in the order of `walk_number`.
-use mathlib.Core.Path.{◌≡◌, sym, ◌∙◌}
-use lib.Dec.{leb}
-use borrow.Author.Rules.{rules}
+use mathlib.Core.Path.{sym, ◌∙◌}
 use borrow.Author.Tests.{le-leb, lt-leb}
-use Rattle.net.specs.Choice.{pick}
-use Rattle.net.specs.Refusals.{accepted, node_number}
 use Rattle.net.proofs.Verdicts.{number_first, number_second}
 use Rattle.walk.specs.Walk.{walk_number}
 use Rattle.walk.proofs.walks.walk_number.Goals as goal

@@ -1,6 +1,5 @@
 -- The refusals of network, question and tables come first, then the trace is held against the hop limit.
 use mathlib.Core.Path.{◌≡◌, ap, ◌∙◌}
-use borrow.Author.Rules.{rules}
 use lib.ListN.{length}
 use Rattle.net.specs.Rows.{Rows}
 use Rattle.tables.specs.Lent.{LentTables}
@@ -15,7 +14,7 @@ returns-then-lent-ne-NONE c =
     let R : Rows = record { nodes = a.n; low = a.low.now; high = a.high.now; weight = a.weight.now } in
     let T : LentTables = record { routing = a.routing.now; forwarding = a.forwarding.now; backwarding = a.backwarding.now } in
     let judged : c.lent_verdict-lent.result ≡ lent_verdict R T (walk_number R.nodes (length R.low) a.source.0 a.question) =
-        c.lent_verdict-lent.ensures ∙ ap (lent_verdict R T) c.walk_number-number.ensures in
+    c.lent_verdict-lent.ensures ∙ ap (lent_verdict R T) c.walk_number-number.ensures in
     walk_lent_refused R T _ _ _ _ judged c.if-lent-ne-NONE.true
 
 pub returns-then-trace-limit : goal.returns-then-trace-limit
@@ -24,7 +23,7 @@ returns-then-trace-limit c =
     let R : Rows = record { nodes = a.n; low = a.low.now; high = a.high.now; weight = a.weight.now } in
     let T : LentTables = record { routing = a.routing.now; forwarding = a.forwarding.now; backwarding = a.backwarding.now } in
     let judged : c.lent_verdict-lent.result ≡ lent_verdict R T (walk_number R.nodes (length R.low) a.source.0 a.question) =
-        c.lent_verdict-lent.ensures ∙ ap (lent_verdict R T) c.walk_number-number.ensures in
+    c.lent_verdict-lent.ensures ∙ ap (lent_verdict R T) c.walk_number-number.ensures in
     c.unplaced.ensures ∙ walk_trace_refused R T _ _ _ _ judged c.if-lent-ne-NONE.false c.if-trace-limit.true
 
 pub returns : goal.returns
@@ -33,5 +32,5 @@ returns c =
     let R : Rows = record { nodes = a.n; low = a.low.now; high = a.high.now; weight = a.weight.now } in
     let T : LentTables = record { routing = a.routing.now; forwarding = a.forwarding.now; backwarding = a.backwarding.now } in
     let judged : c.lent_verdict-lent.result ≡ lent_verdict R T (walk_number R.nodes (length R.low) a.source.0 a.question) =
-        c.lent_verdict-lent.ensures ∙ ap (lent_verdict R T) c.walk_number-number.ensures in
+    c.lent_verdict-lent.ensures ∙ ap (lent_verdict R T) c.walk_number-number.ensures in
     c.unplaced-2.ensures ∙ walk_trace_taken R T _ _ _ _ judged c.if-lent-ne-NONE.false c.if-trace-limit.false

@@ -1,0 +1,61 @@
+use Prim.Native.Nat.{ℕ, ◌≤◌}
+use mathlib.Core.Path.{◌≡◌, refl, ap, ◌∙◌}
+use native.Mathlib.Omega.{arith}
+use borrow.Author.Rules.{rules}
+use lib.ListN.{length}
+use Rattle.net.specs.Limits.{report_hops}
+use Rattle.report.specs.inner.Counting.{course_at}
+use Rattle.report.proofs.Walks.{course_short, counted_none, counted_own, walk_counted, walks_fit}
+use Rattle.report.proofs.counting.line_from.Goals.{then-d-source, else-d-source}
+use Rattle.report.proofs.counting.line_from.Goals as goal
+
+pub loop-d-init : goal.loop-d-init
+loop-d-init c = record { nodes = search rules; same_trace = refl; sums = counted_none _ _ _ }
+
+pub walk_from-outcome-requires : goal.walk_from-outcome-requires
+walk_from-outcome-requires c =
+    let known = c.requires in
+    record {
+      ready = known.ready;
+      source = known.source;
+      destination = c.loop-d-test.true;
+      room = omega (arith, c.loop-d.invariant.same_trace, known.room);
+    }
+
+pub counted-more-requires : goal.counted-more-requires
+counted-more-requires c =
+    let short : (d : ℕ)
+    → let a = c.args in
+    length (course_at (record { nodes = a.n; low = a.low.now; high = a.high.now; weight = a.weight.now })
+    (record { routing = a.routing.now; forwarding = a.forwarding.now; backwarding = a.backwarding.now })
+    a.failure a.source.0 d).crossed ≤ report_hops = λ d. course_short _ _ _ _ d in
+    let known = c.requires in
+    record {
+      counted =
+          walks_fit _ _ _ short known.ready.network.few_nodes known.source
+          c.loop-d-test.true known.counted c.loop-d.invariant.sums;
+      short = omega (arith, c.walk_from-outcome.ensures.hops, short c.loop-d.d);
+    }
+
+pub loop-d-preserved : goal.loop-d-preserved
+loop-d-preserved c =
+    let inv = c.loop-d.invariant in
+    elim c.if-d-source.branch [
+      | then-d-source w ↦ record {
+        nodes = search rules;
+        same_trace = ap length w.trace-is ∙ w.walk_from-outcome.auto.trace ∙ inv.same_trace;
+        sums = w.sum-is ∙ walk_counted _ _ _ w.if-d-source.true inv.sums w.walk_from-outcome.ensures.ending
+            w.walk_from-outcome.ensures.hops w.counted-more.ensures;
+      }
+      | else-d-source w ↦ record {
+        nodes = search rules;
+        same_trace = ap length w.trace-is ∙ inv.same_trace;
+        sums = w.sum-is ∙ inv.sums ∙ counted_own _ _ _ w.if-d-source.false;
+      }
+    ]
+
+pub returns : goal.returns
+returns c =
+    let at = c.loop-d in
+    let all : at.d ≡ c.args.n = omega (arith, at.invariant.nodes, c.loop-d-test.false) in
+    rw all at at.invariant.sums

@@ -1,0 +1,60 @@
+use native.Mathlib.Omega.{arith}
+use borrow.Author.Rules.{rules}
+use Rattle.net.specs.Rows.{Rows}
+use Rattle.tables.specs.Lent.{LentTables}
+use Rattle.report.proofs.AllLines.{held_begin, held_on, held_done, held_fits, held_on_fits}
+use Rattle.report.proofs.totals.lines_of.Goals as goal
+
+pub line_of-first-requires : goal.line_of-first-requires
+line_of-first-requires c = c.requires
+
+pub loop-k-init : goal.loop-k-init
+loop-k-init c = record { counted = search rules; held = held_begin _ c.no_walks-none.ensures c.line_of-first.ensures }
+
+pub line_of-line-requires : goal.line_of-line-requires
+line_of-line-requires c = c.requires
+
+pub overflow_add-k : goal.overflow_add-k
+overflow_add-k c = omega (arith, c.loop-k-test.true, c.requires.network.few_links)
+
+pub offset_bounds-lines-k : goal.offset_bounds-lines-k
+offset_bounds-lines-k c = omega (arith, c.loop-k-test.true, c.requires.network.few_links)
+
+pub bounds-lines-k : goal.bounds-lines-k
+bounds-lines-k c = omega (arith, c.loop-k-test.true, c.requires.network.few_links)
+
+pub overflow_add-delivered : goal.overflow_add-delivered
+overflow_add-delivered c =
+    let a = c.args in
+    let R : Rows = record { nodes = a.n; low = a.low.now; high = a.high.now; weight = a.weight.now } in
+    let T : LentTables = record { routing = a.routing.now; forwarding = a.forwarding.now; backwarding = a.backwarding.now } in
+    let fits = held_on_fits R T c.requires.network.few_nodes c.loop-k.invariant.held c.line_of-line.ensures in
+    omega (arith, fits.0, c.loop-k-test.true, c.requires.network.few_links)
+
+pub overflow_add-dropped : goal.overflow_add-dropped
+overflow_add-dropped c =
+    let a = c.args in
+    let R : Rows = record { nodes = a.n; low = a.low.now; high = a.high.now; weight = a.weight.now } in
+    let T : LentTables = record { routing = a.routing.now; forwarding = a.forwarding.now; backwarding = a.backwarding.now } in
+    let fits = held_on_fits R T c.requires.network.few_nodes c.loop-k.invariant.held c.line_of-line.ensures in
+    omega (arith, fits.1, c.loop-k-test.true, c.requires.network.few_links)
+
+pub loop-k-preserved : goal.loop-k-preserved
+loop-k-preserved c =
+    record {
+      counted = omega (arith, c.loop-k-test.true);
+      held =
+          held_on _ c.loop-k.invariant.held (omega (arith, c.loop-k-test.true, c.requires.network.few_links))
+          c.line_of-line.ensures;
+    }
+
+pub overflow_add-result : goal.overflow_add-result
+overflow_add-result c =
+    let a = c.args in
+    let R : Rows = record { nodes = a.n; low = a.low.now; high = a.high.now; weight = a.weight.now } in
+    let T : LentTables = record { routing = a.routing.now; forwarding = a.forwarding.now; backwarding = a.backwarding.now } in
+    let fits = held_fits R T c.requires.network.few_nodes c.loop-k.invariant.held in
+    omega (arith, fits.0, fits.1, c.loop-k.invariant.counted, c.requires.network.few_links)
+
+pub returns : goal.returns
+returns c = let at = c.loop-k in held_done _ at.invariant.held _ (omega (arith, at.invariant.counted, c.loop-k-test.false))
