@@ -78,6 +78,7 @@ fn bad_ends(n: usize, low: usize, high: usize) -> bool
     n <= high
 }
 
+#[tactic(auto, using(std::proofs::lemmas::Bool::Decides::nat_tests), unfolding(crate::specs::Check::bad_node_count))]
 pub fn bad_node_count(n: usize) -> bool
     ensures { result ≡ bad_node_count n }
 {
