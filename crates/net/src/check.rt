@@ -98,6 +98,7 @@ pub fn bad_weight(weight: u32) -> bool
 }
 
 // The first fault of a link after the one before it, or 0.
+#[tactic(auto, unfolding(crate::specs::Check::link_fault))]
 fn link_fault(n: usize, before: Span, low: usize, high: usize, weight: u32) -> u8
     ensures { result ≡ link_fault n before low high weight }
 {
