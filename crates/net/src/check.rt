@@ -118,6 +118,7 @@ fn link_fault(n: usize, before: Span, low: usize, high: usize, weight: u32) -> u
     }
 }
 
+#[tactic(auto, using(crate::proofs::Faults::many_links))]
 pub fn check_network(n: usize, low: &[u8], high: &[u8], weight: &[u32]) -> Verdict
     ensures { result ≡ check_network
         (record { nodes = n; low = low.now; high = high.now; weight = weight.now }) }

@@ -1,11 +1,12 @@
 use mathlib.Core.Bool.{false}
 use mathlib.Core.Path.{◌≡◌, refl, sym, ◌∙◌}
+use native.Mathlib.Omega.{arith}
 use native.Mathlib.Numerals.{add-one}
 use borrow.Author.Rules.{rules}
 use Rattle.net.specs.Rows.{Rows}
 use Rattle.net.specs.Check.{bad_node_count, span_before}
 use Rattle.net.proofs.Faults.{fault_at, links_done, links_on, links_left}
-use Rattle.net.proofs.Faults.{high_differs, weight_differs, many_nodes, many_links, links_begin}
+use Rattle.net.proofs.Faults.{high_differs, weight_differs, many_nodes, links_begin}
 use Rattle.net.proofs.check.check_network.Goals as goal
 
 pub returns-then-high-links : goal.returns-then-high-links
@@ -19,12 +20,6 @@ returns-then-bad_node_count c =
     c.unplaced-then-bad_node_count.ensures
     ∙ sym (many_nodes _ c.if-high-links.false c.if-weight-links.false (sym c.bad_node_count.ensures ∙ c.if-bad_node_count.true))
 
-pub returns-then-links-gt-LINKS : goal.returns-then-links-gt-LINKS
-returns-then-links-gt-LINKS c =
-    let few_nodes : c.bad_node_count.result ≡ false → bad_node_count c.args.n ≡ false = λ e. sym c.bad_node_count.ensures ∙ e in
-    c.unplaced-then-links-gt-LINKS.ensures
-    ∙ sym (many_links _ c.if-high-links.false c.if-weight-links.false (few_nodes c.if-bad_node_count.false) c.if-links-gt-LINKS.true)
-
 pub loop-k-init : goal.loop-k-init
 unfolding span_before
 loop-k-init c =
@@ -34,7 +29,7 @@ loop-k-init c =
       passed = search rules;
       weights = c.if-weight-links.false;
       last = refl;
-      rest = links_begin _ c.if-high-links.false c.if-weight-links.false (few_nodes c.if-bad_node_count.false) c.if-links-gt-LINKS.false;
+      rest = links_begin _ c.if-high-links.false c.if-weight-links.false (few_nodes c.if-bad_node_count.false) (omega arith);
     }
 
 pub returns-then-fault-ne-NONE : goal.returns-then-fault-ne-NONE
