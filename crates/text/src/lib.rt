@@ -2,9 +2,10 @@
 // these are standard output and standard input.
 #![tactic(auto)]
 
-ghost use Rattle.std.specs.Prelude.{◌≡◌, ◌≤◌, IfOk, OnOk, decimal, length, take};
+ghost use Rattle.std.specs.Prelude.{◌≡◌, ◌<◌, ◌≤◌, IfOk, OnOk, decimal, length, take};
 ghost use Rattle.std.specs.Io.KnownBytes.{Appends};
 ghost use Rattle.text.specs.Bytes.{shifted_by, number_of};
+ghost use Rattle.text.specs.Written.{number_at_place, hex_digit, hex_of_byte, hex_of};
 
 use std::io;
 use std::io::{ErrorKind, Read, Write};
@@ -36,14 +37,18 @@ pub fn decimal<W: Write>(out: &mut W, n: usize) -> io::Result<()>
 }
 
 // Writes a refusal number and its place, as `3 at 0`.
-pub fn number_and_place<W: Write>(out: &mut W, number: u8, place: usize) -> io::Result<()> {
+pub fn number_and_place<W: Write>(out: &mut W, number: u8, place: usize) -> io::Result<()>
+    ensures { OnOk result (Appends (W.contents out.old) (W.contents out.new) (number_at_place number place)) }
+{
     decimal(out, number as usize)?;
     text(out, b" at ")?;
     decimal(out, place)
 }
 
 // Writes each byte as two hexadecimal digits in lower case.
-pub fn hex<W: Write>(out: &mut W, bytes: &[u8]) -> io::Result<()> {
+pub fn hex<W: Write>(out: &mut W, bytes: &[u8]) -> io::Result<()>
+    ensures { OnOk result (Appends (W.contents out.old) (W.contents out.new) (hex_of bytes.now)) }
+{
     let mut i = 0;
     while i < bytes.len() {
         print_byte(out, bytes[i])?;
@@ -52,8 +57,21 @@ pub fn hex<W: Write>(out: &mut W, bytes: &[u8]) -> io::Result<()> {
     Ok(())
 }
 
-fn print_byte<W: Write>(out: &mut W, byte: u8) -> io::Result<()> {
-    write!(out, "{byte:02x}")
+fn print_byte<W: Write>(out: &mut W, byte: u8) -> io::Result<()>
+    ensures { OnOk result (Appends (W.contents out.old) (W.contents out.new) (hex_of_byte byte)) }
+{
+    text(out, &[digit(byte / 16), digit(byte % 16)])
+}
+
+fn digit(half: u8) -> u8
+    requires { half < 16 }
+    ensures { result ≡ hex_digit half }
+{
+    if half < 10 {
+        b'0' + half
+    } else {
+        b'a' - 10 + half
+    }
 }
 
 // The bytes as one number, low byte first; those past the eighth do not count.
