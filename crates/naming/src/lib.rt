@@ -1,8 +1,10 @@
 // How reports name what they speak of: one function names a failure, for every report program.
 #![tactic(auto)]
 
-ghost use Rattle.std.specs.Prelude.{◌≡◌};
+ghost use Rattle.std.specs.Prelude.{◌≡◌, OnOk};
+ghost use Rattle.std.specs.Io.KnownBytes.{Appends};
 ghost use Rattle.naming.specs.Name.{is_twin, has_twin, name_of};
+ghost use Rattle.naming.specs.Printed.{ends_text, twin_text, name_text};
 
 use net::{Failure, Link, end_at};
 use std::io;
@@ -59,13 +61,17 @@ pub fn name_of(low: &[u8], high: &[u8], failure: Failure) -> FailureName
     }
 }
 
-fn print_ends<W: Write>(out: &mut W, low: usize, high: usize) -> io::Result<()> {
+fn print_ends<W: Write>(out: &mut W, low: usize, high: usize) -> io::Result<()>
+    ensures { OnOk result (Appends (W.contents out.old) (W.contents out.new) (ends_text low high)) }
+{
     decimal(out, low)?;
     text(out, b"-")?;
     decimal(out, high)
 }
 
-fn print_twin<W: Write>(out: &mut W, low: usize, high: usize, number: usize) -> io::Result<()> {
+fn print_twin<W: Write>(out: &mut W, low: usize, high: usize, number: usize) -> io::Result<()>
+    ensures { OnOk result (Appends (W.contents out.old) (W.contents out.new) (twin_text low high number)) }
+{
     print_ends(out, low, high)?;
     text(out, b"/")?;
     decimal(out, number)
@@ -77,7 +83,10 @@ pub fn print_failure<W: Write>(
     low: &[u8],
     high: &[u8],
     failure: Failure,
-) -> io::Result<()> {
+) -> io::Result<()>
+    ensures { OnOk result (Appends (W.contents out.old) (W.contents out.new)
+        (name_text (name_of low.now high.now failure))) }
+{
     let name = name_of(low, high, failure);
     match name {
         FailureName::NoFailure => text(out, b"none"),
