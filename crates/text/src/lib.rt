@@ -2,8 +2,8 @@
 // these are standard output and standard input.
 #![tactic(auto)]
 
-ghost use Rattle.std.specs.Prelude.{◌≡◌, ◌<◌, ◌≤◌, IfOk, OnOk, decimal, length, take};
-ghost use Rattle.std.specs.Io.KnownBytes.{Appends};
+ghost use Rattle.std.specs.Prelude.{◌≡◌, ◌<◌, ◌≤◌, true, false, IfOk, OnOk, decimal, length, take};
+ghost use Rattle.std.specs.Io.KnownBytes.{Appends, Consumes, IsAtEnd};
 ghost use Rattle.text.specs.Bytes.{shifted_by, number_of};
 ghost use Rattle.text.specs.Written.{number_at_place, hex_digit, hex_of_byte, hex_of};
 
@@ -100,7 +100,9 @@ fn wide(byte: u8) -> usize {
 
 // One read, made again where it was interrupted.
 fn read_some<R: Read>(input: &mut R, bytes: &mut [u8]) -> io::Result<usize>
-    ensures { IfOk result (λ n. n ≤ length bytes.new) }
+    ensures bound { IfOk result (λ n. n ≤ length bytes.new) }
+    ensures taken { IfOk result (λ n. Consumes (R.remaining input.old) (R.remaining input.new) (take n bytes.new)) }
+    ensures end { IfOk result (λ n. n ≡ 0 → 0 < length bytes.new → IsAtEnd (R.remaining input.new)) }
 {
     for _ in 0..u64::MAX {
         match input.read(bytes) {
@@ -117,7 +119,9 @@ fn read_some<R: Read>(input: &mut R, bytes: &mut [u8]) -> io::Result<usize>
 
 // Reads until the bytes are full or the input ends, and returns how many it put at their start.
 pub fn read_front<R: Read>(input: &mut R, bytes: &mut [u8]) -> io::Result<usize>
-    ensures { IfOk result (λ n. n ≤ length bytes.new) }
+    ensures bound { IfOk result (λ n. n ≤ length bytes.new) }
+    ensures taken { IfOk result (λ n. Consumes (R.remaining input.old) (R.remaining input.new) (take n bytes.new)) }
+    ensures end { IfOk result (λ n. n < length bytes.new → IsAtEnd (R.remaining input.new)) }
 {
     let mut done = 0;
     while done < bytes.len() {
@@ -131,7 +135,10 @@ pub fn read_front<R: Read>(input: &mut R, bytes: &mut [u8]) -> io::Result<usize>
 }
 
 // Fills the bytes from the input: false where the input ends before.
-pub fn read<R: Read>(input: &mut R, bytes: &mut [u8]) -> io::Result<bool> {
+pub fn read<R: Read>(input: &mut R, bytes: &mut [u8]) -> io::Result<bool>
+    ensures filled { IfOk result (λ whole. whole ≡ true → Consumes (R.remaining input.old) (R.remaining input.new) bytes.new) }
+    ensures cut { IfOk result (λ whole. whole ≡ false → IsAtEnd (R.remaining input.new)) }
+{
     Ok(read_front(input, bytes)? == bytes.len())
 }
 
