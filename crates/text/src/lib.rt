@@ -1,5 +1,6 @@
 // What the programs share: bytes and numbers to a writer, bytes, numbers and rows from a reader, and the front of a row. In the programs
-// these are standard output and standard input.
+// these are standard output and standard input. An error is the reader's or the writer's own, and no function here makes another: after one
+// it is left open how much was read or written, and a lent buffer has its length.
 #![tactic(auto)]
 
 ghost use Rattle.std.specs.Prelude.{◌≡◌, ◌<◌, ◌≤◌, true, false, IfOk, OnOk, decimal, length, take};
