@@ -18,7 +18,8 @@ BUILT = $(foreach name,$(PROGRAMS),crates/$(name)/out/$(name))
 report: crates/nightplan/out/nightplan
 	@sh run.sh nightplan
 
-# The proofs, the must-fail edits and the stored program runs, from nothing; then the comparison with the second program.
+# The proofs, the must-fail edits and the stored program runs; then the comparison with the second program. `rt ci` proves from nothing all
+# that it has not passed on this machine.
 test:
 	@sh compare/test.sh
 

@@ -9,7 +9,7 @@ use std::io::{Read, Write};
 use text::{decimal, front, front_weights, number_and_place, read_front, text};
 
 // The bytes of the input that are kept: as many as the longest plan has, and one more, which shows that bytes are left. From these an
-// input gets the reader's answer to all of it (`Reads-first` in `plan`).
+// input gets the reader's answer to all of it (`reads_first` in `plan`).
 const KEPT: usize = plan::LONGEST + 1;
 
 fn print_refusal<W: Write>(out: &mut W, number: u8, place: usize) -> io::Result<()> {

@@ -1,11 +1,12 @@
 // What the programs share: bytes and numbers to a writer, bytes, numbers and rows from a reader, and the front of a row. In the programs
-// these are standard output and standard input. An error is the reader's or the writer's own, and no function here makes another: after one
-// it is left open how much was read or written, and a lent buffer has its length.
+// these are standard output and standard input. An error is an I/O error, of the reader, the writer or std, and no function here makes
+// another. After one it is left open how much was written, as std's `write_all` leaves it; what was read stands at the front of the bytes.
 #![tactic(auto)]
 
-ghost use Rattle.std.specs.Prelude.{◌≡◌, ◌<◌, ◌≤◌, true, false, IfOk, OnOk, decimal, length, take};
-ghost use Rattle.std.specs.Io.KnownBytes.{Appends, Consumes, IsAtEnd};
+ghost use Rattle.std.specs.Prelude.{◌≡◌, ◌<◌, ◌≤◌, true, false, IfOk, OnOk, OnErr, decimal, length, take};
+ghost use Rattle.std.specs.Io.KnownBytes.{Appends, Consumes, IsAtEnd, Keeps};
 ghost use Rattle.text.specs.Bytes.{shifted_by, number_of};
+ghost use Rattle.text.specs.Taken.{TakesSome};
 ghost use Rattle.text.specs.Written.{number_at_place, hex_digit, hex_of_byte, hex_of};
 
 use std::io;
@@ -104,6 +105,7 @@ fn read_some<R: Read>(input: &mut R, bytes: &mut [u8]) -> io::Result<usize>
     ensures bound { IfOk result (λ n. n ≤ length bytes.new) }
     ensures taken { IfOk result (λ n. Consumes (R.remaining input.old) (R.remaining input.new) (take n bytes.new)) }
     ensures end { IfOk result (λ n. n ≡ 0 → 0 < length bytes.new → IsAtEnd (R.remaining input.new)) }
+    ensures err { OnErr result (Keeps (R.remaining input.old) (R.remaining input.new)) }
 {
     for _ in 0..u64::MAX {
         match input.read(bytes) {
@@ -123,6 +125,7 @@ pub fn read_front<R: Read>(input: &mut R, bytes: &mut [u8]) -> io::Result<usize>
     ensures bound { IfOk result (λ n. n ≤ length bytes.new) }
     ensures taken { IfOk result (λ n. Consumes (R.remaining input.old) (R.remaining input.new) (take n bytes.new)) }
     ensures end { IfOk result (λ n. n < length bytes.new → IsAtEnd (R.remaining input.new)) }
+    ensures err { OnErr result (TakesSome (R.remaining input.old) (R.remaining input.new) bytes.new) }
 {
     let mut done = 0;
     while done < bytes.len() {
@@ -139,6 +142,7 @@ pub fn read_front<R: Read>(input: &mut R, bytes: &mut [u8]) -> io::Result<usize>
 pub fn read<R: Read>(input: &mut R, bytes: &mut [u8]) -> io::Result<bool>
     ensures filled { IfOk result (λ whole. whole ≡ true → Consumes (R.remaining input.old) (R.remaining input.new) bytes.new) }
     ensures cut { IfOk result (λ whole. whole ≡ false → IsAtEnd (R.remaining input.new)) }
+    ensures err { OnErr result (TakesSome (R.remaining input.old) (R.remaining input.new) bytes.new) }
 {
     Ok(read_front(input, bytes)? == bytes.len())
 }
