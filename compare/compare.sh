@@ -59,10 +59,6 @@ example() {
     "$out/generate" example "$1" | cmp - "plans/$1.plan"
 }
 
-# the first 170 networks hold every deliberate one; under the emulator, some thirty times slower, they must do
-networks=500
-[ "$(uname -m)" = x86_64 ] || networks=170
-
 if compile second/second.rs second && compile compare/generate/main.rs generate && compile compare/compare.rs compare &&
     compile compare/compare_reports.rs compare_reports && compile compare/compare_kept.rs compare_kept; then
     check "$out/second" selftest
@@ -70,7 +66,7 @@ if compile second/second.rs second && compile compare/generate/main.rs generate 
     check stored answers tables
     check stored nightplan report
     check records codec codec 3000 codec codec
-    check records answers tables "$networks" answers tables
+    check records answers tables 500 answers tables
     check rules answers
     check reports
     check kept

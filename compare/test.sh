@@ -21,6 +21,11 @@ part() {
 }
 
 part ci rt ci
-[ "$failed" -gt 0 ] || part compare sh compare/compare.sh
+# a must-fail edit that could not be applied or read says nothing of a contract, and rt ci passes all the same
+if grep -q '^rt: ok.*, [1-9][0-9]* bad' "$out/ci.txt"; then
+    echo "failed: bad must-fail edits"
+    failed=$((failed + 1))
+fi
+[ "$failed" -gt 0 ] || part compare make -s --no-print-directory compare
 echo "$passed passed, $failed failed"
 [ "$failed" -eq 0 ]

@@ -1,5 +1,7 @@
 // The fields of records that stand beside a network (compare/FORMAT.md). What the input lacks is 0.
 use net::{Failure, Interface, Link, Node, limit};
+use std::io;
+use std::io::Read;
 use text::{SPARE, front, front_room, read, read_number};
 use walk::Asked;
 
@@ -14,10 +16,10 @@ pub const VISITED: usize = 256;
 // The longest lent trace, in the same way.
 pub const TRACE: usize = VISITED + SPARE;
 
-pub fn read_byte() -> u8 {
+pub fn read_byte<R: Read>(input: &mut R) -> io::Result<u8> {
     let mut bytes = [0u8; 1];
-    read(&mut bytes);
-    bytes[0]
+    read(input, &mut bytes)?;
+    Ok(bytes[0])
 }
 
 // A lent table: so many bytes from the start.
@@ -27,14 +29,14 @@ pub struct Table {
     pub bytes: [u8; TABLE],
 }
 
-pub fn read_table() -> Table {
-    let length = read_number(2);
+pub fn read_table<R: Read>(input: &mut R) -> io::Result<Table> {
+    let length = read_number(input, 2)?;
     let mut bytes = [0u8; TABLE];
-    read(front_room(&mut bytes, length));
-    Table {
+    read(input, front_room(&mut bytes, length))?;
+    Ok(Table {
         length: length,
         bytes: bytes,
-    }
+    })
 }
 
 // The table's bytes alone.
@@ -42,20 +44,20 @@ pub fn lent(bytes: &[u8; TABLE], length: usize) -> &[u8] {
     front(bytes, length)
 }
 
-pub fn read_failure() -> Failure {
-    let kind = read_byte();
-    let link = read_number(8);
+pub fn read_failure<R: Read>(input: &mut R) -> io::Result<Failure> {
+    let kind = read_byte(input)?;
+    let link = read_number(input, 8)?;
     if kind == 0 {
-        return Failure::Nothing;
+        return Ok(Failure::Nothing);
     }
-    Failure::One(Link(link))
+    Ok(Failure::One(Link(link)))
 }
 
-pub fn read_asked() -> Asked {
-    let kind = read_byte();
-    let number = read_number(8);
+pub fn read_asked<R: Read>(input: &mut R) -> io::Result<Asked> {
+    let kind = read_byte(input)?;
+    let number = read_number(input, 8)?;
     if kind == 0 {
-        return Asked::Start(Node(number));
+        return Ok(Asked::Start(Node(number)));
     }
-    Asked::Arrival(Interface(number))
+    Ok(Asked::Arrival(Interface(number)))
 }

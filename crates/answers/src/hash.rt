@@ -1,5 +1,6 @@
 // 64-bit FNV-1a: a batch's long answers are compared by their hash.
-use libc::STDOUT_FILENO;
+use std::io;
+use std::io::Write;
 use std::num::wrapping_add_u64;
 
 pub const START: u64 = 14695981039346656037;
@@ -29,6 +30,6 @@ pub fn hash_bytes(hash: u64, bytes: &[u8]) -> u64 {
 }
 
 // Writes the hash in 16 hexadecimal digits.
-pub fn print_hash(hash: u64) {
-    io::print_hex(STDOUT_FILENO, hash, 16);
+pub fn print_hash<W: Write>(out: &mut W, hash: u64) -> io::Result<()> {
+    write!(out, "{hash:016x}")
 }

@@ -11,6 +11,8 @@ use batch::{TABLE, TRACE, lent, read_asked, read_byte, read_failure, read_table}
 use hash::{hash_bytes, print_hash};
 use net::{Failure, Interface, Node, Verdict, limit};
 use report::Figures;
+use std::io;
+use std::io::{Read, Write};
 use text::{
     Head, RECORDS, Rows, UNTOUCHED, decimal, front, front_room, front_weights, hex,
     number_and_place, read_head, read_network, read_number, text,
@@ -43,32 +45,45 @@ fn build(rows: Rows, routing: &mut [u8], forwarding: &mut [u8], backwarding: &mu
     )
 }
 
-fn print_tables(routing: &[u8], forwarding: &[u8], backwarding: &[u8]) {
-    text(b" ");
-    hex(routing);
-    text(b" ");
-    hex(forwarding);
-    text(b" ");
-    hex(backwarding);
+fn print_tables<W: Write>(
+    out: &mut W,
+    routing: &[u8],
+    forwarding: &[u8],
+    backwarding: &[u8],
+) -> io::Result<()> {
+    text(out, b" ")?;
+    hex(out, routing)?;
+    text(out, b" ")?;
+    hex(out, forwarding)?;
+    text(out, b" ")?;
+    hex(out, backwarding)
 }
 
-fn print_built(n: usize, verdict: Verdict, routing: &[u8], forwarding: &[u8], backwarding: &[u8]) {
-    text(b"tables ");
-    number_and_place(verdict.number, verdict.place);
-    text(b" ");
+fn print_built<W: Write>(
+    out: &mut W,
+    n: usize,
+    verdict: Verdict,
+    routing: &[u8],
+    forwarding: &[u8],
+    backwarding: &[u8],
+) -> io::Result<()> {
+    text(out, b"tables ")?;
+    number_and_place(out, verdict.number, verdict.place)?;
+    text(out, b" ")?;
     let one = hash_bytes(hash::START, routing);
     let two = hash_bytes(one, forwarding);
-    print_hash(hash_bytes(two, backwarding));
+    print_hash(out, hash_bytes(two, backwarding))?;
     if in_full(verdict.number, n) {
-        print_tables(routing, forwarding, backwarding);
+        return print_tables(out, routing, forwarding, backwarding);
     }
+    Ok(())
 }
 
-fn tables_line() {
-    let rows = read_network();
-    let routings = read_number(2);
-    let forwardings = read_number(2);
-    let backwardings = read_number(2);
+fn tables_line<R: Read, W: Write>(input: &mut R, out: &mut W) -> io::Result<()> {
+    let rows = read_network(input)?;
+    let routings = read_number(input, 2)?;
+    let forwardings = read_number(input, 2)?;
+    let backwardings = read_number(input, 2)?;
     let mut routing = [UNTOUCHED; TABLE];
     let mut forwarding = [UNTOUCHED; TABLE];
     let mut backwarding = [UNTOUCHED; TABLE];
@@ -79,21 +94,22 @@ fn tables_line() {
         front_room(&mut backwarding, backwardings),
     );
     print_built(
+        out,
         rows.nodes,
         verdict,
         front(&routing, routings),
         front(&forwarding, forwardings),
         front(&backwarding, backwardings),
-    );
+    )
 }
 
-fn keys_line() {
-    let rows = read_network();
+fn keys_line<R: Read, W: Write>(input: &mut R, out: &mut W) -> io::Result<()> {
+    let rows = read_network(input)?;
     let low = rows.low;
     let high = rows.high;
     let weight = rows.weight;
-    let interface = read_number(8);
-    let destination = read_number(8);
+    let interface = read_number(input, 8)?;
+    let destination = read_number(input, 8)?;
     let answer = tables::key_links(
         rows.nodes,
         front(&low, rows.lows),
@@ -102,19 +118,19 @@ fn keys_line() {
         Interface(interface),
         Node(destination),
     );
-    text(b"keys ");
-    number_and_place(answer.number, answer.place);
-    text(b" ");
-    decimal(answer.links as usize);
+    text(out, b"keys ")?;
+    number_and_place(out, answer.number, answer.place)?;
+    text(out, b" ")?;
+    decimal(out, answer.links as usize)
 }
 
-fn best_line() {
-    let rows = read_network();
+fn best_line<R: Read, W: Write>(input: &mut R, out: &mut W) -> io::Result<()> {
+    let rows = read_network(input)?;
     let low = rows.low;
     let high = rows.high;
     let weight = rows.weight;
-    let source = read_number(8);
-    let destination = read_number(8);
+    let source = read_number(input, 8)?;
+    let destination = read_number(input, 8)?;
     let answer = paths::best_path(
         rows.nodes,
         front(&low, rows.lows),
@@ -123,43 +139,46 @@ fn best_line() {
         Node(source),
         Node(destination),
     );
-    text(b"best ");
-    number_and_place(answer.number, answer.place);
-    text(b" sum ");
-    decimal(answer.sum as usize);
-    text(b" links ");
-    decimal(answer.links as usize);
-    text(b" entry ");
-    decimal(answer.entry as usize);
+    text(out, b"best ")?;
+    number_and_place(out, answer.number, answer.place)?;
+    text(out, b" sum ")?;
+    decimal(out, answer.sum as usize)?;
+    text(out, b" links ")?;
+    decimal(out, answer.links as usize)?;
+    text(out, b" entry ")?;
+    decimal(out, answer.entry as usize)
 }
 
-fn row_line() {
-    let table = read_table();
+fn row_line<R: Read, W: Write>(input: &mut R, out: &mut W) -> io::Result<()> {
+    let table = read_table(input)?;
     let bytes = table.bytes;
-    let n = read_number(8);
-    let interface = read_number(8);
+    let n = read_number(input, 8)?;
+    let interface = read_number(input, 8)?;
     let number = tables::row_check(lent(&bytes, table.length), n, Interface(interface));
-    text(b"row ");
-    decimal(number as usize);
-    text(b" ");
-    hex(tables::row_of(lent(&bytes, table.length), n, Interface(interface)));
+    text(out, b"row ")?;
+    decimal(out, number as usize)?;
+    text(out, b" ")?;
+    hex(
+        out,
+        tables::row_of(lent(&bytes, table.length), n, Interface(interface)),
+    )
 }
 
-fn print_step(answer: Stepped) {
+fn print_step<W: Write>(out: &mut W, answer: Stepped) -> io::Result<()> {
     match answer {
         Stepped::Refused(number, place) => {
-            text(b"step ");
-            number_and_place(number, place);
-            text(b" -");
+            text(out, b"step ")?;
+            number_and_place(out, number, place)?;
+            text(out, b" -")
         }
-        Stepped::Delivered => text(b"step 0 at 0 delivered"),
-        Stepped::NothingToFollow => text(b"step 0 at 0 nothing"),
-        Stepped::Dropped => text(b"step 0 at 0 dropped"),
+        Stepped::Delivered => text(out, b"step 0 at 0 delivered"),
+        Stepped::NothingToFollow => text(out, b"step 0 at 0 nothing"),
+        Stepped::Dropped => text(out, b"step 0 at 0 dropped"),
         Stepped::Next(node, interface) => {
-            text(b"step 0 at 0 next ");
-            decimal(node.0);
-            text(b" ");
-            decimal(interface.0);
+            text(out, b"step 0 at 0 next ")?;
+            decimal(out, node.0)?;
+            text(out, b" ")?;
+            decimal(out, interface.0)
         }
     }
 }
@@ -190,26 +209,29 @@ fn step_of(
     )
 }
 
-fn step_line() {
-    let rows = read_network();
-    let routing = read_table();
-    let forwarding = read_table();
-    let backwarding = read_table();
+fn step_line<R: Read, W: Write>(input: &mut R, out: &mut W) -> io::Result<()> {
+    let rows = read_network(input)?;
+    let routing = read_table(input)?;
+    let forwarding = read_table(input)?;
+    let backwarding = read_table(input)?;
     let routing_bytes = routing.bytes;
     let forwarding_bytes = forwarding.bytes;
     let backwarding_bytes = backwarding.bytes;
-    let asked = read_asked();
-    let destination = read_number(8);
-    let failure = read_failure();
-    print_step(step_of(
-        rows,
-        lent(&routing_bytes, routing.length),
-        lent(&forwarding_bytes, forwarding.length),
-        lent(&backwarding_bytes, backwarding.length),
-        asked,
-        destination,
-        failure,
-    ));
+    let asked = read_asked(input)?;
+    let destination = read_number(input, 8)?;
+    let failure = read_failure(input)?;
+    print_step(
+        out,
+        step_of(
+            rows,
+            lent(&routing_bytes, routing.length),
+            lent(&forwarding_bytes, forwarding.length),
+            lent(&backwarding_bytes, backwarding.length),
+            asked,
+            destination,
+            failure,
+        ),
+    )
 }
 
 fn walk_of(
@@ -242,30 +264,30 @@ fn walk_of(
     )
 }
 
-fn print_walk(answer: Walked, trace: &[u8]) {
-    text(b"walk ");
-    number_and_place(answer.number, answer.place);
-    text(b" ending ");
-    decimal(answer.ending as usize);
-    text(b" hops ");
-    decimal(answer.hops);
-    text(b" trace ");
-    hex(trace);
+fn print_walk<W: Write>(out: &mut W, answer: Walked, trace: &[u8]) -> io::Result<()> {
+    text(out, b"walk ")?;
+    number_and_place(out, answer.number, answer.place)?;
+    text(out, b" ending ")?;
+    decimal(out, answer.ending as usize)?;
+    text(out, b" hops ")?;
+    decimal(out, answer.hops)?;
+    text(out, b" trace ")?;
+    hex(out, trace)
 }
 
-fn walk_line() {
-    let rows = read_network();
-    let routing = read_table();
-    let forwarding = read_table();
-    let backwarding = read_table();
+fn walk_line<R: Read, W: Write>(input: &mut R, out: &mut W) -> io::Result<()> {
+    let rows = read_network(input)?;
+    let routing = read_table(input)?;
+    let forwarding = read_table(input)?;
+    let backwarding = read_table(input)?;
     let routing_bytes = routing.bytes;
     let forwarding_bytes = forwarding.bytes;
     let backwarding_bytes = backwarding.bytes;
-    let source = read_number(8);
-    let destination = read_number(8);
-    let failure = read_failure();
-    let limit = read_byte();
-    let length = read_number(2);
+    let source = read_number(input, 8)?;
+    let destination = read_number(input, 8)?;
+    let failure = read_failure(input)?;
+    let limit = read_byte(input)?;
+    let length = read_number(input, 2)?;
     let mut trace = [UNTOUCHED; TRACE];
     let answer = walk_of(
         rows,
@@ -278,7 +300,7 @@ fn walk_line() {
         limit,
         front_room(&mut trace, length),
     );
-    print_walk(answer, front(&trace, length));
+    print_walk(out, answer, front(&trace, length))
 }
 
 fn all_walks_of(rows: Rows, routing: &[u8], forwarding: &[u8], backwarding: &[u8]) -> u64 {
@@ -296,20 +318,19 @@ fn all_walks_of(rows: Rows, routing: &[u8], forwarding: &[u8], backwarding: &[u8
     )
 }
 
-fn all_line() {
-    let rows = read_network();
+fn all_line<R: Read, W: Write>(input: &mut R, out: &mut W) -> io::Result<()> {
+    let rows = read_network(input)?;
     let mut routing = [0u8; limit::PAIRS];
     let mut forwarding = [0u8; 2 * limit::LINKS * limit::NODES];
     let mut backwarding = [0u8; 2 * limit::LINKS * limit::NODES];
     let verdict = build(rows, &mut routing, &mut forwarding, &mut backwarding);
-    text(b"all ");
-    number_and_place(verdict.number, verdict.place);
-    text(b" ");
+    text(out, b"all ")?;
+    number_and_place(out, verdict.number, verdict.place)?;
+    text(out, b" ")?;
     if verdict.number != 0 {
-        text(b"-");
-        return;
+        return text(out, b"-");
     }
-    print_hash(all_walks_of(rows, &routing, &forwarding, &backwarding));
+    print_hash(out, all_walks_of(rows, &routing, &forwarding, &backwarding))
 }
 
 fn figures_of(
@@ -334,69 +355,79 @@ fn figures_of(
     )
 }
 
-fn print_figures(answer: Figures) {
+fn print_figures<W: Write>(out: &mut W, answer: Figures) -> io::Result<()> {
     let line = answer.line;
-    text(b"figures ");
-    number_and_place(answer.number, answer.place);
-    text(b" ");
-    decimal(line.delivered);
-    text(b" ");
-    decimal(line.dropped);
-    text(b" ");
-    decimal(line.hops);
-    text(b" ");
-    decimal(line.longest);
+    text(out, b"figures ")?;
+    number_and_place(out, answer.number, answer.place)?;
+    text(out, b" ")?;
+    decimal(out, line.delivered)?;
+    text(out, b" ")?;
+    decimal(out, line.dropped)?;
+    text(out, b" ")?;
+    decimal(out, line.hops)?;
+    text(out, b" ")?;
+    decimal(out, line.longest)
 }
 
-fn figures_line() {
-    let rows = read_network();
-    let routing = read_table();
-    let forwarding = read_table();
-    let backwarding = read_table();
+fn figures_line<R: Read, W: Write>(input: &mut R, out: &mut W) -> io::Result<()> {
+    let rows = read_network(input)?;
+    let routing = read_table(input)?;
+    let forwarding = read_table(input)?;
+    let backwarding = read_table(input)?;
     let routing_bytes = routing.bytes;
     let forwarding_bytes = forwarding.bytes;
     let backwarding_bytes = backwarding.bytes;
-    let failure = read_failure();
-    print_figures(figures_of(
-        rows,
-        lent(&routing_bytes, routing.length),
-        lent(&forwarding_bytes, forwarding.length),
-        lent(&backwarding_bytes, backwarding.length),
-        failure,
-    ));
+    let failure = read_failure(input)?;
+    print_figures(
+        out,
+        figures_of(
+            rows,
+            lent(&routing_bytes, routing.length),
+            lent(&forwarding_bytes, forwarding.length),
+            lent(&backwarding_bytes, backwarding.length),
+            failure,
+        ),
+    )
 }
 
 // Answers one record of this kind: false for a byte that is no kind.
-fn answer(kind: u8) -> bool {
+fn answer<R: Read, W: Write>(input: &mut R, out: &mut W, kind: u8) -> io::Result<bool> {
     match kind {
-        b'T' => tables_line(),
-        b'K' => keys_line(),
-        b'B' => best_line(),
-        b'R' => row_line(),
-        b'S' => step_line(),
-        b'W' => walk_line(),
-        b'A' => all_line(),
-        b'F' => figures_line(),
-        _ => return false,
+        b'T' => tables_line(input, out)?,
+        b'K' => keys_line(input, out)?,
+        b'B' => best_line(input, out)?,
+        b'R' => row_line(input, out)?,
+        b'S' => step_line(input, out)?,
+        b'W' => walk_line(input, out)?,
+        b'A' => all_line(input, out)?,
+        b'F' => figures_line(input, out)?,
+        _ => return Ok(false),
     }
-    text(b"\n");
-    true
+    text(out, b"\n")?;
+    Ok(true)
 }
 
-fn record() -> bool {
-    let head = read_head();
+fn record<R: Read, W: Write>(input: &mut R, out: &mut W) -> io::Result<bool> {
+    let head = read_head(input)?;
     let Head::Record(kind, _) = head else {
-        return false;
+        return Ok(false);
     };
-    answer(kind)
+    answer(input, out, kind)
 }
 
-fn main() {
+fn answer_records<R: Read, W: Write>(input: &mut R, out: &mut W) -> io::Result<()> {
     let mut left = RECORDS;
     while 0 < left {
-        if !record() {
-            return;
+        if !record(input, out)? {
+            return Ok(());
         }
         left -= 1;
     }
+    Ok(())
+}
+
+fn main(rt: HostRuntime) -> io::Result<()> {
+    let mut input = rt.stdin();
+    let mut out = rt.stdout();
+    answer_records(&mut input, &mut out)
 }

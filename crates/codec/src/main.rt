@@ -4,6 +4,8 @@
 #![tactic(auto)]
 
 use net::{end_at, limit};
+use std::io;
+use std::io::{Read, Write};
 use text::{
     Head, RECORDS, SPARE, UNTOUCHED, decimal, front, front_room, front_weights, hex,
     number_and_place, read, read_head, read_network, read_number, text,
@@ -12,53 +14,65 @@ use text::{
 // The longest stored plan of a record, and the longest room for one: 2 + 3 * LINKS numbers of three groups each, and what is to spare.
 const PLAN: usize = 3 * (2 + 3 * limit::LINKS) + SPARE;
 
-fn print_weight(weight: u32) {
-    decimal(weight as usize);
+fn print_weight<W: Write>(out: &mut W, weight: u32) -> io::Result<()> {
+    decimal(out, weight as usize)
 }
 
-fn print_links(low: &[u8], high: &[u8], weight: &[u32]) {
+fn print_links<W: Write>(out: &mut W, low: &[u8], high: &[u8], weight: &[u32]) -> io::Result<()> {
     let mut k = 0;
     while k < weight.len() {
-        text(b" ");
-        decimal(end_at(low, k));
-        text(b"-");
-        decimal(end_at(high, k));
-        text(b":");
-        print_weight(weight[k]);
+        text(out, b" ")?;
+        decimal(out, end_at(low, k))?;
+        text(out, b"-")?;
+        decimal(out, end_at(high, k))?;
+        text(out, b":")?;
+        print_weight(out, weight[k])?;
         k += 1;
     }
+    Ok(())
 }
 
-fn print_written(n: usize, low: &[u8], high: &[u8], weight: &[u32]) {
+fn print_written<W: Write>(
+    out: &mut W,
+    n: usize,
+    low: &[u8],
+    high: &[u8],
+    weight: &[u32],
+) -> io::Result<()> {
     let mut room = [0u8; PLAN];
     let written = plan::write_plan(n, low, high, weight, &mut room);
     let count = written.count;
     if count == 0 {
-        return;
+        return Ok(());
     }
-    text(b" plan ");
-    hex(front(&room, count));
+    text(out, b" plan ")?;
+    hex(out, front(&room, count))?;
     let mut small = [0u8; PLAN];
     let refused = plan::write_plan(n, low, high, weight, front_room(&mut small, count - 1));
-    text(b" short ");
-    decimal(refused.number as usize);
+    text(out, b" short ")?;
+    decimal(out, refused.number as usize)
 }
 
-fn print_network(n: usize, low: &[u8], high: &[u8], weight: &[u32]) {
-    text(b"nodes ");
-    decimal(n);
-    text(b" links ");
-    decimal(weight.len());
-    print_links(low, high, weight);
-    print_written(n, low, high, weight);
+fn print_network<W: Write>(
+    out: &mut W,
+    n: usize,
+    low: &[u8],
+    high: &[u8],
+    weight: &[u32],
+) -> io::Result<()> {
+    text(out, b"nodes ")?;
+    decimal(out, n)?;
+    text(out, b" links ")?;
+    decimal(out, weight.len())?;
+    print_links(out, low, high, weight)?;
+    print_written(out, n, low, high, weight)
 }
 
-fn print_plan(s: &[u8]) {
+fn print_plan<W: Write>(out: &mut W, s: &[u8]) -> io::Result<()> {
     let reading = plan::read_plan(s);
     if reading.number != 0 {
-        text(b"refused ");
-        number_and_place(reading.number, reading.place);
-        return;
+        text(out, b"refused ")?;
+        return number_and_place(out, reading.number, reading.place);
     }
     let network = reading.network;
     let links = network.links;
@@ -66,80 +80,96 @@ fn print_plan(s: &[u8]) {
     let high = network.high;
     let weight = network.weight;
     print_network(
+        out,
         network.nodes,
         front(&low, links),
         front(&high, links),
         front_weights(&weight, links),
-    );
+    )
 }
 
-fn plan_record(length: usize) -> bool {
+fn plan_record<R: Read, W: Write>(input: &mut R, out: &mut W, length: usize) -> io::Result<bool> {
     let mut bytes = [0u8; PLAN];
     if bytes.len() < length {
-        return false;
+        return Ok(false);
     }
-    if !read(front_room(&mut bytes, length)) {
-        return false;
+    if !read(input, front_room(&mut bytes, length))? {
+        return Ok(false);
     }
-    print_plan(front(&bytes, length));
-    text(b"\n");
-    true
+    print_plan(out, front(&bytes, length))?;
+    text(out, b"\n")?;
+    Ok(true)
 }
 
-fn print_checks(n: usize, low: &[u8], high: &[u8], weight: &[u32], room: &mut [u8]) {
+fn print_checks<W: Write>(
+    out: &mut W,
+    n: usize,
+    low: &[u8],
+    high: &[u8],
+    weight: &[u32],
+    room: &mut [u8],
+) -> io::Result<()> {
     let verdict = net::check_network(n, low, high, weight);
-    text(b"network ");
-    number_and_place(verdict.number, verdict.place);
+    text(out, b"network ")?;
+    number_and_place(out, verdict.number, verdict.place)?;
     let written = plan::write_plan(n, low, high, weight, room);
-    text(b" write ");
-    number_and_place(written.number, written.place);
-    text(b" count ");
-    decimal(written.count);
-    text(b" room ");
-    hex(room);
-    text(b"\n");
+    text(out, b" write ")?;
+    number_and_place(out, written.number, written.place)?;
+    text(out, b" count ")?;
+    decimal(out, written.count)?;
+    text(out, b" room ")?;
+    hex(out, room)?;
+    text(out, b"\n")
 }
 
-fn network_record() -> bool {
-    let rows = read_network();
-    let length = read_number(2);
+fn network_record<R: Read, W: Write>(input: &mut R, out: &mut W) -> io::Result<bool> {
+    let rows = read_network(input)?;
+    let length = read_number(input, 2)?;
     let mut room = [UNTOUCHED; PLAN];
     if room.len() < length {
-        return false;
+        return Ok(false);
     }
     let low = rows.low;
     let high = rows.high;
     let weight = rows.weight;
     print_checks(
+        out,
         rows.nodes,
         front(&low, rows.lows),
         front(&high, rows.highs),
         front_weights(&weight, rows.weights),
         front_room(&mut room, length),
-    );
-    true
+    )?;
+    Ok(true)
 }
 
-fn record() -> bool {
-    let head = read_head();
+fn record<R: Read, W: Write>(input: &mut R, out: &mut W) -> io::Result<bool> {
+    let head = read_head(input)?;
     let Head::Record(kind, length) = head else {
-        return false;
+        return Ok(false);
     };
     if kind == b'P' {
-        return plan_record(length);
+        return plan_record(input, out, length);
     }
     if kind == b'N' {
-        return network_record();
+        return network_record(input, out);
     }
-    false
+    Ok(false)
 }
 
-fn main() {
+fn answer_records<R: Read, W: Write>(input: &mut R, out: &mut W) -> io::Result<()> {
     let mut left = RECORDS;
     while 0 < left {
-        if !record() {
-            return;
+        if !record(input, out)? {
+            return Ok(());
         }
         left -= 1;
     }
+    Ok(())
+}
+
+fn main(rt: HostRuntime) -> io::Result<()> {
+    let mut input = rt.stdin();
+    let mut out = rt.stdout();
+    answer_records(&mut input, &mut out)
 }

@@ -1,10 +1,14 @@
 // How reports name what they speak of: one function names a failure, for every report program.
 #![tactic(auto)]
 
-ghost use Rattle.std.specs.Prelude.{◌≡◌};
+ghost use Rattle.std.specs.Prelude.{◌≡◌, OnOk};
+ghost use Rattle.std.specs.Io.KnownBytes.{Appends};
 ghost use Rattle.naming.specs.Name.{is_twin, has_twin, name_of};
+ghost use Rattle.naming.specs.Printed.{ends_text, twin_text, name_text};
 
 use net::{Failure, Link, end_at};
+use std::io;
+use std::io::Write;
 use text::{decimal, text};
 
 // Twin: one of two or more links that join the same nodes, by its ends and its own number.
@@ -57,22 +61,36 @@ pub fn name_of(low: &[u8], high: &[u8], failure: Failure) -> FailureName
     }
 }
 
-fn print_ends(low: usize, high: usize) {
-    decimal(low);
-    text(b"-");
-    decimal(high);
+fn print_ends<W: Write>(out: &mut W, low: usize, high: usize) -> io::Result<()>
+    ensures { OnOk result (Appends (W.contents out.old) (W.contents out.new) (ends_text low high)) }
+{
+    decimal(out, low)?;
+    text(out, b"-")?;
+    decimal(out, high)
+}
+
+fn print_twin<W: Write>(out: &mut W, low: usize, high: usize, number: usize) -> io::Result<()>
+    ensures { OnOk result (Appends (W.contents out.old) (W.contents out.new) (twin_text low high number)) }
+{
+    print_ends(out, low, high)?;
+    text(out, b"/")?;
+    decimal(out, number)
 }
 
 // Writes the name: `none`, `0-1`, or `0-1/3`.
-pub fn print_failure(low: &[u8], high: &[u8], failure: Failure) {
+pub fn print_failure<W: Write>(
+    out: &mut W,
+    low: &[u8],
+    high: &[u8],
+    failure: Failure,
+) -> io::Result<()>
+    ensures { OnOk result (Appends (W.contents out.old) (W.contents out.new)
+        (name_text (name_of low.now high.now failure))) }
+{
     let name = name_of(low, high, failure);
     match name {
-        FailureName::NoFailure => text(b"none"),
-        FailureName::Ends(low_end, high_end) => print_ends(low_end, high_end),
-        FailureName::Twin(low_end, high_end, number) => {
-            print_ends(low_end, high_end);
-            text(b"/");
-            decimal(number);
-        }
+        FailureName::NoFailure => text(out, b"none"),
+        FailureName::Ends(low_end, high_end) => print_ends(out, low_end, high_end),
+        FailureName::Twin(low_end, high_end, number) => print_twin(out, low_end, high_end, number),
     }
 }

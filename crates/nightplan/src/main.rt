@@ -1,68 +1,87 @@
 // The report program: a stored plan on standard input, the report on standard output.
 #![tactic(auto)]
 
-use libc::STDIN_FILENO;
 use naming::print_failure;
 use net::{Failure, Link, limit};
 use report::{Line, Lines};
-use text::{decimal, front, front_weights, number_and_place, text};
+use std::io;
+use std::io::{Read, Write};
+use text::{decimal, front, front_weights, number_and_place, read_front, text};
 
 // The bytes of the input that are kept: as many as the longest plan has, and one more, which shows that bytes are left. From these an
-// input gets the reader's answer to all of it (`Reads-first` in `plan`).
+// input gets the reader's answer to all of it (`reads_first` in `plan`).
 const KEPT: usize = plan::LONGEST + 1;
 
-fn print_refusal(number: u8, place: usize) {
-    text(b"refused ");
-    number_and_place(number, place);
-    text(b"\n");
+fn print_refusal<W: Write>(out: &mut W, number: u8, place: usize) -> io::Result<()> {
+    text(out, b"refused ")?;
+    number_and_place(out, number, place)?;
+    text(out, b"\n")
 }
 
-fn print_line(line: Line) {
-    text(b" delivered ");
-    decimal(line.delivered);
-    text(b" dropped ");
-    decimal(line.dropped);
-    text(b" hops ");
-    decimal(line.hops);
-    text(b" longest ");
-    decimal(line.longest);
-    text(b"\n");
+fn print_line<W: Write>(out: &mut W, line: Line) -> io::Result<()> {
+    text(out, b" delivered ")?;
+    decimal(out, line.delivered)?;
+    text(out, b" dropped ")?;
+    decimal(out, line.dropped)?;
+    text(out, b" hops ")?;
+    decimal(out, line.hops)?;
+    text(out, b" longest ")?;
+    decimal(out, line.longest)?;
+    text(out, b"\n")
 }
 
 // The line of each link's failure: that of link k stands at k + 1.
-fn print_links(low: &[u8], high: &[u8], lines: [Line; limit::LINKS + 1]) {
+fn print_links<W: Write>(
+    out: &mut W,
+    low: &[u8],
+    high: &[u8],
+    lines: [Line; limit::LINKS + 1],
+) -> io::Result<()> {
     let mut k: usize = 0;
     while k < low.len() {
         let next = k + 1;
         if limit::LINKS < next {
-            return;
+            return Ok(());
         }
-        print_failure(low, high, Failure::One(Link(k)));
-        print_line(lines[next]);
+        print_failure(out, low, high, Failure::One(Link(k)))?;
+        print_line(out, lines[next])?;
         k = next;
     }
+    Ok(())
 }
 
-fn print_lines(n: usize, low: &[u8], high: &[u8], answer: Lines) {
-    text(b"nodes ");
-    decimal(n);
-    text(b" links ");
-    decimal(low.len());
-    text(b"\n");
-    print_failure(low, high, Failure::Nothing);
+fn print_lines<W: Write>(
+    out: &mut W,
+    n: usize,
+    low: &[u8],
+    high: &[u8],
+    answer: Lines,
+) -> io::Result<()> {
+    text(out, b"nodes ")?;
+    decimal(out, n)?;
+    text(out, b" links ")?;
+    decimal(out, low.len())?;
+    text(out, b"\n")?;
+    print_failure(out, low, high, Failure::Nothing)?;
     let lines = answer.lines;
-    print_line(lines[0]);
-    print_links(low, high, lines);
-    text(b"walks ");
-    decimal(answer.walks);
-    text(b" delivered ");
-    decimal(answer.delivered);
-    text(b" dropped ");
-    decimal(answer.dropped);
-    text(b"\n");
+    print_line(out, lines[0])?;
+    print_links(out, low, high, lines)?;
+    text(out, b"walks ")?;
+    decimal(out, answer.walks)?;
+    text(out, b" delivered ")?;
+    decimal(out, answer.delivered)?;
+    text(out, b" dropped ")?;
+    decimal(out, answer.dropped)?;
+    text(out, b"\n")
 }
 
-fn print_report(n: usize, low: &[u8], high: &[u8], weight: &[u32]) {
+fn print_report<W: Write>(
+    out: &mut W,
+    n: usize,
+    low: &[u8],
+    high: &[u8],
+    weight: &[u32],
+) -> io::Result<()> {
     let mut routing = [0u8; limit::PAIRS];
     let mut forwarding = [0u8; 2 * limit::LINKS * limit::NODES];
     let mut backwarding = [0u8; 2 * limit::LINKS * limit::NODES];
@@ -77,19 +96,17 @@ fn print_report(n: usize, low: &[u8], high: &[u8], weight: &[u32]) {
     );
     let answer = report::all_lines(n, low, high, weight, &routing, &forwarding, &backwarding);
     if answer.number != 0 {
-        print_refusal(answer.number, answer.place);
-        return;
+        return print_refusal(out, answer.number, answer.place);
     }
-    print_lines(n, low, high, answer);
+    print_lines(out, n, low, high, answer)
 }
 
-fn main() {
+fn report_plan<R: Read, W: Write>(input: &mut R, out: &mut W) -> io::Result<()> {
     let mut bytes = [0u8; KEPT];
-    let count = io::read_full(STDIN_FILENO, &mut bytes);
+    let count = read_front(input, &mut bytes)?;
     let reading = plan::read_plan(front(&bytes, count));
     if reading.number != 0 {
-        print_refusal(reading.number, reading.place);
-        return;
+        return print_refusal(out, reading.number, reading.place);
     }
     let network = reading.network;
     let links = network.links;
@@ -97,9 +114,16 @@ fn main() {
     let high = network.high;
     let weight = network.weight;
     print_report(
+        out,
         network.nodes,
         front(&low, links),
         front(&high, links),
         front_weights(&weight, links),
-    );
+    )
+}
+
+fn main(rt: HostRuntime) -> io::Result<()> {
+    let mut input = rt.stdin();
+    let mut out = rt.stdout();
+    report_plan(&mut input, &mut out)
 }

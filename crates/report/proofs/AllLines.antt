@@ -1,6 +1,6 @@
 -- The laws of the loop over the failed links. Line k + 1 is put at the end of the lines so far, in the first of the places that still
--- hold no walks, and the two sums take its figures: that is the loop's invariant, HeldUpTo, from its begin to its end (held-begin,
--- held_on, held-done). A line of at most so many walks gives sums of at most so many for each line (sums-fit), so nothing overflows.
+-- hold no walks, and the two sums take its figures: that is the loop's invariant, HeldUpTo, from its begin to its end (held_begin,
+-- held_on, held_done). A line of at most so many walks gives sums of at most so many for each line (sums_fit), so nothing overflows.
 use Prim.Native.Nat.{ℕ, zero, suc, ◌+◌, ◌*◌, ◌-◌, ◌≤◌, ◌<◌}
 use mathlib.Core.Path.{◌≡◌, refl, ap, ◌∙◌}
 use mathlib.Core.List.{List, [], ◌∷◌, ◌++◌, append_assoc}

@@ -1,6 +1,6 @@
 -- What the figures say. On each line delivered and dropped walks make n × (n - 1), since each walk counts for one of the two
--- (line-adds-up); so all lines together make (links + 1) × n × (n - 1) walks (walks-made). And over built tables, with at most one
--- failed link, delivered counts exactly the pairs of nodes that working links join (delivered-exactly), by demand 3 of each walk.
+-- (line_adds_up); so all lines together make (links + 1) × n × (n - 1) walks (walks_made). And over built tables, with at most one
+-- failed link, delivered counts exactly the pairs of nodes that working links join (delivered_exactly), by demand 3 of each walk.
 use Prim.Native.Nat.{ℕ, zero, suc, ◌+◌, ◌*◌, ◌-◌, ◌<◌}
 use mathlib.Core.Bool.{Bool, true, false, true≢false}
 use mathlib.Core.Path.{◌≡◌, refl, sym, ◌∙◌}

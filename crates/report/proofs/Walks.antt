@@ -1,7 +1,7 @@
--- The laws of the two loops that count walks. A walk of the report crosses at most as many links as its limit (course-short), and counts
+-- The laws of the two loops that count walks. A walk of the report crosses at most as many links as its limit (course_short), and counts
 -- as delivered or as other by its ending (counts). One walk more makes of the line below d the line below d + 1, and the source itself,
--- to which no walk is made, changes nothing (walk-counted, counted-own); the line below n, added to the lines of the sources before s,
--- is that of the sources below s + 1 (source-counted). As each walk counts for at most one walk and its hop limit, no figure passes what
+-- to which no walk is made, changes nothing (walk_counted, counted_own); the line below n, added to the lines of the sources before s,
+-- is that of the sources below s + 1 (source_counted). As each walk counts for at most one walk and its hop limit, no figure passes what
 -- so many walks can make (AtMostWalks), and nothing overflows.
 use Prim.Native.Nat.{ℕ, zero, suc, ◌+◌, ◌*◌, ◌≤◌, ◌<◌, max}
 use mathlib.Core.Path.{◌≡◌, refl, sym, ap, subst, ◌∙◌}

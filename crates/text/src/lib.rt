@@ -1,10 +1,16 @@
-// What the programs share: bytes and numbers to standard output, bytes, numbers and rows from standard input, and the front of a row.
+// What the programs share: bytes and numbers to a writer, bytes, numbers and rows from a reader, and the front of a row. In the programs
+// these are standard output and standard input. An error is an I/O error, of the reader, the writer or std, and no function here makes
+// another. After one it is left open how much was written, as std's `write_all` leaves it; what was read stands at the front of the bytes.
 #![tactic(auto)]
 
-ghost use Rattle.std.specs.Prelude.{◌≡◌, take};
+ghost use Rattle.std.specs.Prelude.{◌≡◌, ◌<◌, ◌≤◌, true, false, IfOk, OnOk, OnErr, decimal, length, take};
+ghost use Rattle.std.specs.Io.KnownBytes.{Appends, Consumes, IsAtEnd, Keeps};
 ghost use Rattle.text.specs.Bytes.{shifted_by, number_of};
+ghost use Rattle.text.specs.Taken.{TakesSome};
+ghost use Rattle.text.specs.Written.{number_at_place, hex_digit, hex_of_byte, hex_of};
 
-use libc::{STDIN_FILENO, STDOUT_FILENO};
+use std::io;
+use std::io::{ErrorKind, Read, Write};
 
 // Of a batch (compare/FORMAT.md): at most so many records are answered, so that a run ends on any input.
 pub const RECORDS: usize = 1000000;
@@ -18,29 +24,55 @@ pub const SPARE: usize = 128;
 // The longest row of a network: its length is one byte.
 pub const ROW: usize = 255;
 
-// Writes the bytes to standard output.
-pub fn text(bytes: &[u8]) {
-    io::write_all(STDOUT_FILENO, bytes);
+// Writes the bytes.
+pub fn text<W: Write>(out: &mut W, bytes: &[u8]) -> io::Result<()>
+    ensures { OnOk result (Appends (W.contents out.old) (W.contents out.new) bytes.now) }
+{
+    out.write_all(bytes)
 }
 
 // Writes the number in decimal digits.
-pub fn decimal(n: usize) {
-    io::print_decimal(STDOUT_FILENO, n as u64);
+pub fn decimal<W: Write>(out: &mut W, n: usize) -> io::Result<()>
+    ensures { OnOk result (Appends (W.contents out.old) (W.contents out.new) (decimal n)) }
+{
+    write!(out, "{n}")
 }
 
 // Writes a refusal number and its place, as `3 at 0`.
-pub fn number_and_place(number: u8, place: usize) {
-    decimal(number as usize);
-    text(b" at ");
-    decimal(place);
+pub fn number_and_place<W: Write>(out: &mut W, number: u8, place: usize) -> io::Result<()>
+    ensures { OnOk result (Appends (W.contents out.old) (W.contents out.new) (number_at_place number place)) }
+{
+    decimal(out, number as usize)?;
+    text(out, b" at ")?;
+    decimal(out, place)
 }
 
 // Writes each byte as two hexadecimal digits in lower case.
-pub fn hex(bytes: &[u8]) {
+pub fn hex<W: Write>(out: &mut W, bytes: &[u8]) -> io::Result<()>
+    ensures { OnOk result (Appends (W.contents out.old) (W.contents out.new) (hex_of bytes.now)) }
+{
     let mut i = 0;
     while i < bytes.len() {
-        io::print_hex(STDOUT_FILENO, wide(bytes[i]) as u64, 2);
+        print_byte(out, bytes[i])?;
         i += 1;
+    }
+    Ok(())
+}
+
+fn print_byte<W: Write>(out: &mut W, byte: u8) -> io::Result<()>
+    ensures { OnOk result (Appends (W.contents out.old) (W.contents out.new) (hex_of_byte byte)) }
+{
+    text(out, &[digit(byte / 16), digit(byte % 16)])
+}
+
+fn digit(half: u8) -> u8
+    requires { half < 16 }
+    ensures { result ≡ hex_digit half }
+{
+    if half < 10 {
+        b'0' + half
+    } else {
+        b'a' - 10 + half
     }
 }
 
@@ -68,16 +100,58 @@ fn wide(byte: u8) -> usize {
     byte as usize
 }
 
-// Fills the bytes from standard input: false where the input ends before.
-pub fn read(bytes: &mut [u8]) -> bool {
-    io::read_full(STDIN_FILENO, bytes) == bytes.len()
+// One read, made again where it was interrupted.
+fn read_some<R: Read>(input: &mut R, bytes: &mut [u8]) -> io::Result<usize>
+    ensures bound { IfOk result (λ n. n ≤ length bytes.new) }
+    ensures taken { IfOk result (λ n. Consumes (R.remaining input.old) (R.remaining input.new) (take n bytes.new)) }
+    ensures end { IfOk result (λ n. n ≡ 0 → 0 < length bytes.new → IsAtEnd (R.remaining input.new)) }
+    ensures err { OnErr result (Keeps (R.remaining input.old) (R.remaining input.new)) }
+{
+    for _ in 0..u64::MAX {
+        match input.read(bytes) {
+            Ok(n) => return Ok(n),
+            Err(e) => {
+                if e.kind() != ErrorKind::Interrupted {
+                    return Err(e);
+                }
+            }
+        }
+    }
+    input.read(bytes)
+}
+
+// Reads until the bytes are full or the input ends, and returns how many it put at their start.
+pub fn read_front<R: Read>(input: &mut R, bytes: &mut [u8]) -> io::Result<usize>
+    ensures bound { IfOk result (λ n. n ≤ length bytes.new) }
+    ensures taken { IfOk result (λ n. Consumes (R.remaining input.old) (R.remaining input.new) (take n bytes.new)) }
+    ensures end { IfOk result (λ n. n < length bytes.new → IsAtEnd (R.remaining input.new)) }
+    ensures err { OnErr result (TakesSome (R.remaining input.old) (R.remaining input.new) bytes.new) }
+{
+    let mut done = 0;
+    while done < bytes.len() {
+        let n = read_some(input, &mut bytes[done..])?;
+        if n == 0 {
+            break;
+        }
+        done += n;
+    }
+    Ok(done)
+}
+
+// Fills the bytes from the input: false where the input ends before.
+pub fn read<R: Read>(input: &mut R, bytes: &mut [u8]) -> io::Result<bool>
+    ensures filled { IfOk result (λ whole. whole ≡ true → Consumes (R.remaining input.old) (R.remaining input.new) bytes.new) }
+    ensures cut { IfOk result (λ whole. whole ≡ false → IsAtEnd (R.remaining input.new)) }
+    ensures err { OnErr result (TakesSome (R.remaining input.old) (R.remaining input.new) bytes.new) }
+{
+    Ok(read_front(input, bytes)? == bytes.len())
 }
 
 // Reads a number of so many bytes, at most 8, low byte first. What the input lacks is 0.
-pub fn read_number(width: usize) -> usize {
+pub fn read_number<R: Read>(input: &mut R, width: usize) -> io::Result<usize> {
     let mut bytes = [0u8; 8];
-    read(front_room(&mut bytes, width));
-    number_of(&bytes) as usize
+    read(input, front_room(&mut bytes, width))?;
+    Ok(number_of(&bytes) as usize)
 }
 
 // How a record of a batch begins (compare/FORMAT.md): its kind and the length of its fields; or there is none left.
@@ -87,29 +161,30 @@ pub enum Head {
     End,
 }
 
-pub fn read_head() -> Head {
+pub fn read_head<R: Read>(input: &mut R) -> io::Result<Head> {
     let mut kind = [0u8; 1];
-    if !read(&mut kind) {
-        return Head::End;
+    if !read(input, &mut kind)? {
+        return Ok(Head::End);
     }
-    Head::Record(kind[0], read_number(4))
+    let length = read_number(input, 4)?;
+    Ok(Head::Record(kind[0], length))
 }
 
 // Fills the first n weights, 4 bytes each, low byte first: false where the input ends before, or there are fewer.
-pub fn read_weights(weights: &mut [u32], n: usize) -> bool {
+pub fn read_weights<R: Read>(input: &mut R, weights: &mut [u32], n: usize) -> io::Result<bool> {
     let mut i = 0;
     while i < n {
         if weights.len() <= i {
-            return false;
+            return Ok(false);
         }
         let mut bytes = [0u8; 4];
-        if !read(&mut bytes) {
-            return false;
+        if !read(input, &mut bytes)? {
+            return Ok(false);
         }
         weights[i] = low_half(number_of(&bytes));
         i += 1;
     }
-    true
+    Ok(true)
 }
 
 fn low_half(n: u64) -> u32 {
@@ -129,20 +204,20 @@ pub struct Rows {
 }
 
 // Reads a network (compare/FORMAT.md). What the input lacks is 0.
-pub fn read_network() -> Rows {
-    let nodes = read_number(8);
+pub fn read_network<R: Read>(input: &mut R) -> io::Result<Rows> {
+    let nodes = read_number(input, 8)?;
     let mut lengths = [0u8; 3];
-    read(&mut lengths);
+    read(input, &mut lengths)?;
     let lows = wide(lengths[0]);
     let highs = wide(lengths[1]);
     let weights = wide(lengths[2]);
     let mut low = [0u8; ROW];
-    read(front_room(&mut low, lows));
+    read(input, front_room(&mut low, lows))?;
     let mut high = [0u8; ROW];
-    read(front_room(&mut high, highs));
+    read(input, front_room(&mut high, highs))?;
     let mut weight = [0u32; ROW];
-    read_weights(&mut weight, weights);
-    Rows {
+    read_weights(input, &mut weight, weights)?;
+    Ok(Rows {
         nodes: nodes,
         lows: lows,
         highs: highs,
@@ -150,7 +225,7 @@ pub fn read_network() -> Rows {
         low: low,
         high: high,
         weight: weight,
-    }
+    })
 }
 
 // The first n bytes, or all where there are fewer.

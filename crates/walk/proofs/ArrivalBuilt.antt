@@ -1,8 +1,8 @@
 -- The promise to the desk, of `build_tables`, `walk` and `step` together (document 02, L7). What is read in built tables are the papers'
--- entries, so graph's theorem speaks of them: on no arrival of a walk is the byte 255 (always-finds-an-entry), and a walk that ends with 2
--- stands at a failed link (dropped-at-a-failed-link), however many links have failed. A step asked on an arrival says that there is
--- nothing to follow exactly if no links at all, failed or not, join its node to the destination (nothing-to-follow): an arrival that no
--- walk makes. No walk over whatever tables answers an ending above 3 (four-endings).
+-- entries, so graph's theorem speaks of them: on no arrival of a walk is the byte 255 (always_finds_an_entry), and a walk that ends with 2
+-- stands at a failed link (dropped_at_a_failed_link), however many links have failed. A step asked on an arrival says that there is
+-- nothing to follow exactly if no links at all, failed or not, join its node to the destination (nothing_to_follow): an arrival that no
+-- walk makes. No walk over whatever tables answers an ending above 3 (four_endings).
 use Prim.Native.Nat.{ℕ, ◌*◌, ◌<◌, ◌≤◌}
 use mathlib.Core.Bool.{Bool, true, false}
 use mathlib.Core.Path.{◌≡◌, refl, sym, ◌∙◌}

@@ -1,6 +1,6 @@
--- Tables as the builder leaves them. The byte of an entry says that very entry again: hereByte and nowhereByte are no links, and of the
--- two interfaces of a link only one leaves the deciding node. So built tables pass 16 (built-passes), and what a walk reads in them are
--- the entries that the papers define (built-entries).
+-- Tables as the builder leaves them. The byte of an entry says that very entry again: here_byte and nowhere_byte are no links, and of the
+-- two interfaces of a link only one leaves the deciding node. So built tables pass 16 (built_passes), and what a walk reads in them are
+-- the entries that the papers define (built_entries).
 use Prim.Native.Nat.{ℕ, ◌<◌}
 use mathlib.Core.Bool.{true}
 use mathlib.Core.Path.{◌≡◌, refl, sym}

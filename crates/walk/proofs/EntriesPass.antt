@@ -1,5 +1,5 @@
--- The test of refusal 16 and its words agree: tables pass the test exactly if every entry for the deciding node itself is hereByte, and
--- every other entry is nowhereByte or a link at the deciding node. The link of an interface that the test finds is one at the node that
+-- The test of refusal 16 and its words agree: tables pass the test exactly if every entry for the deciding node itself is here_byte, and
+-- every other entry is nowhere_byte or a link at the deciding node. The link of an interface that the test finds is one at the node that
 -- the interface leaves, and a link at a node has an interface that leaves it.
 use Prim.Native.Nat.{ℕ, zero, suc, ◌+◌, ◌*◌, ◌<◌}
 use mathlib.Core.Bool.{Bool, true, false}

@@ -1,5 +1,5 @@
 -- What a byte says at a node. The interface that it names is one of the network, leaves that node, and has the byte as its link
--- (hop-below, hop-leaves, hop-link); and the link of an interface, read at the node that it leaves, names that interface (hop-is): the
+-- (hop_below, hop_leaves, hop_link); and the link of an interface, read at the node that it leaves, names that interface (hop_is): the
 -- other one of the link leaves its other end. The code asks the same questions in the same order, but for 254 and 255, which are no links.
 use Prim.Native.Nat.{ℕ, ◌+◌, ◌*◌, ◌≤◌, ◌<◌}
 use mathlib.Core.Bool.{Bool, true, false}

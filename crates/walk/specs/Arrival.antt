@@ -1,6 +1,6 @@
 -- What the desk is promised of built tables (document 02, L7): "Over built tables, from any start, a packet that has arrived somewhere
 -- always finds an entry." The definition stands under the words that it says. That every walk over built tables has it, whatever links
--- have failed, is always-finds-an-entry of proofs/ArrivalBuilt.antt; what ending 2 says of such a walk, and when a single step still
+-- have failed, is always_finds_an_entry of proofs/ArrivalBuilt.antt; what ending 2 says of such a walk, and when a single step still
 -- says that there is nothing to follow, stand there too.
 use Rattle.std.specs.Prelude.{ℕ, ◌+◌, ◌*◌, Bool, ◌≢◌, get_or}
 use Rattle.graph.specs.Path.{Each}

@@ -1,7 +1,7 @@
 -- Demand 3 of the answer and the trace of one walk: "With at most one failed link, the walk over the built tables is delivered exactly
 -- if a chain of working links exists: at most 2n - 3 hops, each working, no link twice in one direction; else it ends at the start or at
 -- the failed link within n - 2 hops." Each definition stands under the words that it says. That every walk over built tables has it is
--- demand-3 of proofs/Demand3Built.antt.
+-- demand_3 of proofs/Demand3Built.antt.
 use Rattle.std.specs.Prelude.{ℕ, ◌+◌, ◌*◌, ◌<◌, ◌≤◌, ◌≡◌, ◌≢◌, ◌⊎◌, ◌↔◌, true, List, ◌++◌, length, drop}
 use Rattle.graph.specs.Network.{Network, link, tail}
 use Rattle.graph.specs.Path.{Chain, Over, Distinct, visits}

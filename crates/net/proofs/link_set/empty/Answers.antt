@@ -1,4 +1,4 @@
--- `empty` is noLinks as it stands.
+-- `empty` is no_links as it stands.
 use mathlib.Core.Path.{refl}
 use Rattle.net.specs.inner.LinkSet.{no_links}
 use Rattle.net.proofs.link_set.empty.Goals as goal

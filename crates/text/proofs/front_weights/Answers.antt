@@ -1,0 +1,13 @@
+-- `front_weights`: a row that has n elements or more is cut to its first n; one with fewer is its own front.
+use mathlib.Core.Path.{sym}
+use native.Mathlib.Omega.{arith}
+use lib.Seq.{take_all}
+use Rattle.text.proofs.Counted.{front_length}
+use borrow.Author.Rules.{rules}
+use Rattle.text.proofs.front_weights.Goals as goal
+
+pub returns-then-weights-n : goal.returns-then-weights-n
+returns-then-weights-n c = sym (take_all c.args.n c.args.weights.now (omega arith))
+
+pub slice_bounds-result-end : goal.slice_bounds-result-end
+slice_bounds-result-end c = search (front_length, rules)
