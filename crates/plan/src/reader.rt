@@ -159,6 +159,7 @@ fn read_links(s: &[u8], n: usize, m: usize, first: usize) -> Reading
     }
 }
 
+#[tactic(auto, unfolding(crate::specs::Reader::link_count_at, crate::specs::Reader::take_link_count))]
 fn read_link_count(s: &[u8], n: usize, second: usize) -> Reading
     requires { n ≤ most_nodes }
     ensures { result ≡ link_count_at s.now n second }
