@@ -176,6 +176,7 @@ fn read_link_count(s: &[u8], n: usize, second: usize) -> Reading
     }
 }
 
+#[tactic(auto, using(net::proofs::Tests::count_tells), unfolding(crate::specs::Reader::read_plan, crate::specs::Reader::take_node_count))]
 pub fn read_plan(s: &[u8]) -> Reading
     ensures { result ≡ read_plan s.now }
 {
