@@ -47,6 +47,7 @@ fn refused(number: u8, place: usize) -> Reading
 }
 
 // The weight, the last number of a link whose ends have passed and whose low end stands at first.
+#[tactic(auto, unfolding(crate::specs::Reader::weight_at, crate::specs::Reader::take_weight))]
 fn read_weight(s: &[u8], first: usize, third: usize, low: u8, high: u8, before: Span) -> LinkRead
     ensures { result ≡ weight_at s.now first third low high before }
 {
