@@ -44,6 +44,7 @@ pub fn known(c: Cost) -> bool
 }
 
 // Whether a comes before b: weight sum first, then the set of links.
+#[tactic(auto, unfolding(crate::specs::inner::Cost::before))]
 pub fn comes_before(a: Cost, b: Cost) -> bool
     ensures { result ≡ before a b }
 {
