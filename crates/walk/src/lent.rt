@@ -17,6 +17,7 @@ pub enum Found {
 
 // What the byte of an entry says at a node: the link that it names leads from one of its ends to the other. This is the only place that
 // knows what a byte means. 254 and 255 are no links, so they need no test of their own.
+#[tactic(auto, using(crate::proofs::Hops::found_no_link, crate::proofs::Hops::found_from_low, crate::proofs::Hops::found_from_high, crate::proofs::Hops::found_apart))]
 pub fn look_up(low: &[u8], high: &[u8], node: Node, byte: u8) -> Found
     requires { Paired low.now high.now }
     ensures { result ≡ found_by low.now high.now
