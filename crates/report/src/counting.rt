@@ -35,6 +35,7 @@ pub fn no_walks() -> Line
 }
 
 // The line with one walk more.
+#[tactic(auto, unfolding(crate::specs::inner::Counting::counted_line, walk::specs::Walk::ending_number))]
 fn counted(line: Line, outcome: Outcome) -> Line
     requires { OneMore line outcome.hops }
     ensures { result ≡ counted_line line outcome.ending outcome.hops }
