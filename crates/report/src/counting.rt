@@ -61,6 +61,7 @@ fn counted(line: Line, outcome: Outcome) -> Line
 }
 
 // The walks from one source, over tables that have been checked.
+#[tactic(auto, using(crate::proofs::Walks::walk_counted, crate::proofs::Walks::counted_own))]
 fn line_from(
     line: Line,
     n: usize,

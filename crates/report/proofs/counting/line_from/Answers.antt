@@ -1,12 +1,11 @@
 use Prim.Native.Nat.{ℕ, ◌≤◌}
-use mathlib.Core.Path.{◌≡◌, refl, ap, ◌∙◌}
+use mathlib.Core.Path.{◌≡◌, refl}
 use native.Mathlib.Omega.{arith}
 use borrow.Author.Rules.{rules}
 use lib.ListN.{length}
 use Rattle.net.specs.Limits.{report_hops}
 use Rattle.report.specs.inner.Counting.{course_at}
-use Rattle.report.proofs.Walks.{course_short, counted_none, counted_own, walk_counted, walks_fit}
-use Rattle.report.proofs.counting.line_from.Goals.{then-d-source, else-d-source}
+use Rattle.report.proofs.Walks.{course_short, counted_none, walks_fit}
 use Rattle.report.proofs.counting.line_from.Goals as goal
 
 pub loop-d-init : goal.loop-d-init
@@ -36,23 +35,6 @@ counted-more-requires c =
           c.loop-d-test.true known.counted c.loop-d.invariant.sums;
       short = omega (arith, c.walk_from-outcome.ensures.hops, short c.loop-d.d);
     }
-
-pub loop-d-preserved : goal.loop-d-preserved
-loop-d-preserved c =
-    let inv = c.loop-d.invariant in
-    elim c.if-d-source.branch [
-      | then-d-source w ↦ record {
-        nodes = search rules;
-        same_trace = ap length w.trace-is ∙ w.walk_from-outcome.auto.trace ∙ inv.same_trace;
-        sums = w.sum-is ∙ walk_counted _ _ _ w.if-d-source.true inv.sums w.walk_from-outcome.ensures.ending
-            w.walk_from-outcome.ensures.hops w.counted-more.ensures;
-      }
-      | else-d-source w ↦ record {
-        nodes = search rules;
-        same_trace = ap length w.trace-is ∙ inv.same_trace;
-        sums = w.sum-is ∙ inv.sums ∙ counted_own _ _ _ w.if-d-source.false;
-      }
-    ]
 
 pub returns : goal.returns
 returns c =
