@@ -1,5 +1,5 @@
 -- `best_path` meets its promise: after the refusals, the entry of the column over all links gives the measures and the routing entry.
-use mathlib.Core.Path.{◌≡◌, refl, sym, ap, ◌∙◌}
+use mathlib.Core.Path.{◌≡◌, sym, ap, ◌∙◌}
 use native.Mathlib.Omega.{arith}
 use lib.ListN.{get_or}
 use Rattle.graph.specs.Network.{WellFormed}
@@ -11,20 +11,9 @@ use Rattle.net.proofs.Bytes.{here_byte_lem}
 use Rattle.paths.specs.inner.Column.{Shows}
 use Rattle.paths.specs.Best.{best_path_verdict}
 use Rattle.paths.specs.declared.cost.Cost.{Cost}
-use Rattle.paths.proofs.Verdict.{number, place, Passed, passed, answered}
+use Rattle.paths.proofs.Verdict.{number, Passed, passed, answered}
 use Rattle.paths.proofs.Answers.{shown_measures, unknown_measures, here_measures, entry_shows, known_byte, unknown_byte}
 use Rattle.paths.proofs.best.best_path.Goals as goal
-
-pub returns-then-verdict-ne-NONE : goal.returns-then-verdict-ne-NONE
-returns-then-verdict-ne-NONE c =
-    let answer = c.best_path_verdict-verdict.ensures in
-    record {
-      number = ap number answer;
-      place = ap place answer;
-      refused = λ n. (refl, refl, refl);
-      measures = λ e. absurd (c.if-verdict-ne-NONE.true e);
-      routing = λ e. absurd (c.if-verdict-ne-NONE.true e);
-    }
 
 pub column_of-column-requires : goal.column_of-column-requires
 column_of-column-requires c =

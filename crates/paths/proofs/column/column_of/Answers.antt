@@ -1,10 +1,6 @@
 -- `column_of` settles the column in which only the destination is known.
 use Rattle.paths.proofs.BestColumn.{start_best}
-use Rattle.paths.proofs.Steps.{linked}
 use Rattle.paths.proofs.column.column_of.Goals as goal
-
-pub settle-requires : goal.settle-requires
-settle-requires c = linked c.requires.network
 
 pub returns : goal.returns
 returns c =

@@ -5,19 +5,12 @@ use Rattle.net.specs.Rows.{Rows}
 use Rattle.paths.specs.inner.Rounds.{settled}
 use Rattle.paths.specs.declared.column.Revised.{Revised}
 use Rattle.paths.proofs.BestColumn.{restarted_settled, restarted_still}
-use Rattle.paths.proofs.Steps.{linked}
 use Rattle.paths.proofs.column.column_without.Goals as goal
-
-pub blank-given-requires : goal.blank-given-requires
-blank-given-requires c = c.requires.few_nodes
 
 pub returns-then-not-given : goal.returns-then-not-given
 returns-then-not-given c =
     restarted_still c.requires c.args.out c.args.column c.well_formed.0.1.0.1
     (sym (ap (λ (s : Revised). s.changed) c.blank-given.ensures) ∙ not-true _ c.if-not-given.true)
-
-pub settle-requires : goal.settle-requires
-settle-requires c = linked c.requires
 
 pub returns : goal.returns
 returns c =

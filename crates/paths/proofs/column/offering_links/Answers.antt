@@ -11,34 +11,6 @@ use Rattle.paths.proofs.column.offering_links.Goals as goal
 pub loop-k-init : goal.loop-k-init
 loop-k-init c = rw c.empty-offering.ensures (offering_begin _ _ _ _)
 
-pub offset_bounds-given-x : goal.offset_bounds-given-x
-offset_bounds-given-x c =
-    let places : let args = c.args in
-    (get_or args.low.now c.loop-k.k 0 < most_nodes) × (get_or args.high.now c.loop-k.k 0 < most_nodes) = let h = c.loop-k-test.true in
-    (c.requires.low_place _ h, c.requires.high_place _ h) in
-    let ends = places in omega arith
-
-pub bounds-given-x : goal.bounds-given-x
-bounds-given-x c =
-    let places : let args = c.args in
-    (get_or args.low.now c.loop-k.k 0 < most_nodes) × (get_or args.high.now c.loop-k.k 0 < most_nodes) = let h = c.loop-k-test.true in
-    (c.requires.low_place _ h, c.requires.high_place _ h) in
-    let ends = places in omega arith
-
-pub offset_bounds-given-y : goal.offset_bounds-given-y
-offset_bounds-given-y c =
-    let places : let args = c.args in
-    (get_or args.low.now c.loop-k.k 0 < most_nodes) × (get_or args.high.now c.loop-k.k 0 < most_nodes) = let h = c.loop-k-test.true in
-    (c.requires.low_place _ h, c.requires.high_place _ h) in
-    let ends = places in omega arith
-
-pub bounds-given-y : goal.bounds-given-y
-bounds-given-y c =
-    let places : let args = c.args in
-    (get_or args.low.now c.loop-k.k 0 < most_nodes) × (get_or args.high.now c.loop-k.k 0 < most_nodes) = let h = c.loop-k-test.true in
-    (c.requires.low_place _ h, c.requires.high_place _ h) in
-    let ends = places in omega arith
-
 pub loop-k-preserved : goal.loop-k-preserved
 loop-k-preserved c =
     let places : let args = c.args in

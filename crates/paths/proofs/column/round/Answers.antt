@@ -14,9 +14,6 @@ pub loop-j-init : goal.loop-j-init
 loop-j-init c =
     (c.well_formed.0.1.0.1, round_begin _ _ _ _ _ c.args.column)
 
-pub turn_of-k-requires : goal.turn_of-k-requires
-turn_of-k-requires c = c.loop-j-test.true
-
 pub bounds-low-k : goal.bounds-low-k
 bounds-low-k c =
     let places : let args = c.args in let k = c.turn_of-k.result in
@@ -53,24 +50,6 @@ bounds-weight-k c =
     (h, ends.low_place _ h, ends.high_place _ h) in
     let ends = places in omega arith
 
-pub offset_bounds-next-y : goal.offset_bounds-next-y
-offset_bounds-next-y c =
-    let places : let args = c.args in let k = c.turn_of-k.result in
-    (k < length args.low.now) × (get_or args.low.now k 0 < most_nodes) × (get_or args.high.now k 0 < most_nodes) = let ends = c.requires.ends in
-    let below = turn_below (length c.args.low.now) c.args.upward _ c.loop-j-test.true in
-    let h : c.turn_of-k.result < length c.args.low.now = omega (arith, below, c.turn_of-k.ensures) in
-    (h, ends.low_place _ h, ends.high_place _ h) in
-    let ends = places in omega arith
-
-pub bounds-next-y : goal.bounds-next-y
-bounds-next-y c =
-    let places : let args = c.args in let k = c.turn_of-k.result in
-    (k < length args.low.now) × (get_or args.low.now k 0 < most_nodes) × (get_or args.high.now k 0 < most_nodes) = let ends = c.requires.ends in
-    let below = turn_below (length c.args.low.now) c.args.upward _ c.loop-j-test.true in
-    let h : c.turn_of-k.result < length c.args.low.now = omega (arith, below, c.turn_of-k.ensures) in
-    (h, ends.low_place _ h, ends.high_place _ h) in
-    let ends = places in omega arith
-
 pub overflow_mul-k : goal.overflow_mul-k
 overflow_mul-k c =
     let places : let args = c.args in let k = c.turn_of-k.result in
@@ -91,60 +70,6 @@ overflow_cast-k c =
 
 pub extend-to_low-requires : goal.extend-to_low-requires
 extend-to_low-requires c =
-    let places : let args = c.args in let k = c.turn_of-k.result in
-    (k < length args.low.now) × (get_or args.low.now k 0 < most_nodes) × (get_or args.high.now k 0 < most_nodes) = let ends = c.requires.ends in
-    let below = turn_below (length c.args.low.now) c.args.upward _ c.loop-j-test.true in
-    let h : c.turn_of-k.result < length c.args.low.now = omega (arith, below, c.turn_of-k.ensures) in
-    (h, ends.low_place _ h, ends.high_place _ h) in
-    let ends = places in omega arith
-
-pub offset_bounds-next-x : goal.offset_bounds-next-x
-offset_bounds-next-x c =
-    let places : let args = c.args in let k = c.turn_of-k.result in
-    (k < length args.low.now) × (get_or args.low.now k 0 < most_nodes) × (get_or args.high.now k 0 < most_nodes) = let ends = c.requires.ends in
-    let below = turn_below (length c.args.low.now) c.args.upward _ c.loop-j-test.true in
-    let h : c.turn_of-k.result < length c.args.low.now = omega (arith, below, c.turn_of-k.ensures) in
-    (h, ends.low_place _ h, ends.high_place _ h) in
-    let ends = places in omega arith
-
-pub bounds-next-x : goal.bounds-next-x
-bounds-next-x c =
-    let places : let args = c.args in let k = c.turn_of-k.result in
-    (k < length args.low.now) × (get_or args.low.now k 0 < most_nodes) × (get_or args.high.now k 0 < most_nodes) = let ends = c.requires.ends in
-    let below = turn_below (length c.args.low.now) c.args.upward _ c.loop-j-test.true in
-    let h : c.turn_of-k.result < length c.args.low.now = omega (arith, below, c.turn_of-k.ensures) in
-    (h, ends.low_place _ h, ends.high_place _ h) in
-    let ends = places in omega arith
-
-pub offset_bounds-next-x-then-comes_before : goal.offset_bounds-next-x-then-comes_before
-offset_bounds-next-x-then-comes_before c =
-    let places : let args = c.args in let k = c.turn_of-k.result in
-    (k < length args.low.now) × (get_or args.low.now k 0 < most_nodes) × (get_or args.high.now k 0 < most_nodes) = let ends = c.requires.ends in
-    let below = turn_below (length c.args.low.now) c.args.upward _ c.loop-j-test.true in
-    let h : c.turn_of-k.result < length c.args.low.now = omega (arith, below, c.turn_of-k.ensures) in
-    (h, ends.low_place _ h, ends.high_place _ h) in
-    let ends = places in omega arith
-
-pub bounds-next-x-then-comes_before : goal.bounds-next-x-then-comes_before
-bounds-next-x-then-comes_before c =
-    let places : let args = c.args in let k = c.turn_of-k.result in
-    (k < length args.low.now) × (get_or args.low.now k 0 < most_nodes) × (get_or args.high.now k 0 < most_nodes) = let ends = c.requires.ends in
-    let below = turn_below (length c.args.low.now) c.args.upward _ c.loop-j-test.true in
-    let h : c.turn_of-k.result < length c.args.low.now = omega (arith, below, c.turn_of-k.ensures) in
-    (h, ends.low_place _ h, ends.high_place _ h) in
-    let ends = places in omega arith
-
-pub offset_bounds-next-x-then-has_link : goal.offset_bounds-next-x-then-has_link
-offset_bounds-next-x-then-has_link c =
-    let places : let args = c.args in let k = c.turn_of-k.result in
-    (k < length args.low.now) × (get_or args.low.now k 0 < most_nodes) × (get_or args.high.now k 0 < most_nodes) = let ends = c.requires.ends in
-    let below = turn_below (length c.args.low.now) c.args.upward _ c.loop-j-test.true in
-    let h : c.turn_of-k.result < length c.args.low.now = omega (arith, below, c.turn_of-k.ensures) in
-    (h, ends.low_place _ h, ends.high_place _ h) in
-    let ends = places in omega arith
-
-pub bounds-next-x-then-has_link : goal.bounds-next-x-then-has_link
-bounds-next-x-then-has_link c =
     let places : let args = c.args in let k = c.turn_of-k.result in
     (k < length args.low.now) × (get_or args.low.now k 0 < most_nodes) × (get_or args.high.now k 0 < most_nodes) = let ends = c.requires.ends in
     let below = turn_below (length c.args.low.now) c.args.upward _ c.loop-j-test.true in
@@ -181,42 +106,6 @@ overflow_cast-k-then-has_link c =
 
 pub extend-to_high-requires : goal.extend-to_high-requires
 extend-to_high-requires c =
-    let places : let args = c.args in let k = c.turn_of-k.result in
-    (k < length args.low.now) × (get_or args.low.now k 0 < most_nodes) × (get_or args.high.now k 0 < most_nodes) = let ends = c.requires.ends in
-    let below = turn_below (length c.args.low.now) c.args.upward _ c.loop-j-test.true in
-    let h : c.turn_of-k.result < length c.args.low.now = omega (arith, below, c.turn_of-k.ensures) in
-    (h, ends.low_place _ h, ends.high_place _ h) in
-    let ends = places in omega arith
-
-pub offset_bounds-next-y-then-has_link : goal.offset_bounds-next-y-then-has_link
-offset_bounds-next-y-then-has_link c =
-    let places : let args = c.args in let k = c.turn_of-k.result in
-    (k < length args.low.now) × (get_or args.low.now k 0 < most_nodes) × (get_or args.high.now k 0 < most_nodes) = let ends = c.requires.ends in
-    let below = turn_below (length c.args.low.now) c.args.upward _ c.loop-j-test.true in
-    let h : c.turn_of-k.result < length c.args.low.now = omega (arith, below, c.turn_of-k.ensures) in
-    (h, ends.low_place _ h, ends.high_place _ h) in
-    let ends = places in omega arith
-
-pub bounds-next-y-then-has_link : goal.bounds-next-y-then-has_link
-bounds-next-y-then-has_link c =
-    let places : let args = c.args in let k = c.turn_of-k.result in
-    (k < length args.low.now) × (get_or args.low.now k 0 < most_nodes) × (get_or args.high.now k 0 < most_nodes) = let ends = c.requires.ends in
-    let below = turn_below (length c.args.low.now) c.args.upward _ c.loop-j-test.true in
-    let h : c.turn_of-k.result < length c.args.low.now = omega (arith, below, c.turn_of-k.ensures) in
-    (h, ends.low_place _ h, ends.high_place _ h) in
-    let ends = places in omega arith
-
-pub offset_bounds-next-y-then-comes_before-2 : goal.offset_bounds-next-y-then-comes_before-2
-offset_bounds-next-y-then-comes_before-2 c =
-    let places : let args = c.args in let k = c.turn_of-k.result in
-    (k < length args.low.now) × (get_or args.low.now k 0 < most_nodes) × (get_or args.high.now k 0 < most_nodes) = let ends = c.requires.ends in
-    let below = turn_below (length c.args.low.now) c.args.upward _ c.loop-j-test.true in
-    let h : c.turn_of-k.result < length c.args.low.now = omega (arith, below, c.turn_of-k.ensures) in
-    (h, ends.low_place _ h, ends.high_place _ h) in
-    let ends = places in omega arith
-
-pub bounds-next-y-then-comes_before-2 : goal.bounds-next-y-then-comes_before-2
-bounds-next-y-then-comes_before-2 c =
     let places : let args = c.args in let k = c.turn_of-k.result in
     (k < length args.low.now) × (get_or args.low.now k 0 < most_nodes) × (get_or args.high.now k 0 < most_nodes) = let ends = c.requires.ends in
     let below = turn_below (length c.args.low.now) c.args.upward _ c.loop-j-test.true in

@@ -6,12 +6,6 @@ use Rattle.paths.proofs.Steps.{rounds_begin, rounds_done, rounds_still, rounds_o
 use Rattle.paths.proofs.column.settle.Invariants.{rows}
 use Rattle.paths.proofs.column.settle.Goals as goal
 
-pub offering_links-offering-requires : goal.offering_links-offering-requires
-offering_links-offering-requires c = c.requires.ends
-
-pub round-one-requires : goal.round-one-requires
-round-one-requires c = c.requires
-
 pub returns-then-not-one : goal.returns-then-not-one
 returns-then-not-one c =
     let whole : let args = c.args in let at = c.loop-r in

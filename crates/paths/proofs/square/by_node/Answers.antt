@@ -5,14 +5,11 @@ use Rattle.paths.specs.inner.Cost.{no_cost}
 use Rattle.paths.specs.inner.Column.{entry_at}
 use Rattle.paths.specs.inner.Square.{column_for}
 use Rattle.paths.proofs.Shape.{Shaped, square_shaped, within}
-use Rattle.paths.proofs.Turning.{turned_start, turned_more, turned_row}
+use Rattle.paths.proofs.Turning.{turned_start, turned_more}
 use Rattle.paths.proofs.square.by_node.Goals as goal
 
 pub loop-i-init : goal.loop-i-init
 loop-i-init c = turned_start no_cost (square_shaped c.args.square c.well_formed.0.0 c.well_formed.0.1.0.1 c.well_formed.0.1.1)
-
-pub loop-d-init : goal.loop-d-init
-loop-d-init c = c.loop-i.invariant
 
 pub loop-d-preserved : goal.loop-d-preserved
 loop-d-preserved c =
@@ -21,9 +18,6 @@ loop-d-preserved c =
     let at = c.loop-d in
     turned_more no_cost at.invariant (omega arith) (omega arith)
     (within (get_or c.args.square at.d []) i _ no_cost (omega (arith, (shaped).row at.d (omega arith))))
-
-pub loop-i-preserved : goal.loop-i-preserved
-loop-i-preserved c = turned_row no_cost c.loop-d.invariant (omega arith)
 
 pub returns : goal.returns
 unfolding column_for entry_at

@@ -1,4 +1,4 @@
-use mathlib.Core.Path.{refl, ◌∙◌}
+use mathlib.Core.Path.{◌∙◌}
 use native.Mathlib.Omega.{arith}
 use borrow.Author.Count.{below_more}
 use lib.ListN.{length-set}
@@ -8,9 +8,6 @@ use Rattle.paths.specs.inner.Column.{entry_at}
 use Rattle.paths.specs.inner.Square.{column_for}
 use Rattle.paths.proofs.Shape.{square_shaped, read_at}
 use Rattle.paths.proofs.square.costs_of.Goals as goal
-
-pub loop-d-init : goal.loop-d-init
-loop-d-init c = (refl, λ e h. absurd (omega arith))
 
 pub loop-d-preserved : goal.loop-d-preserved
 unfolding column_for entry_at
@@ -22,6 +19,3 @@ loop-d-preserved c =
           (get_or-set_same at.costs at.d _ no_cost (omega arith)
           ∙ read_at (column_for c.args.square at.d) c.args.i (omega (arith, shaped.row at.d (omega arith))) _),
     )
-
-pub returns : goal.returns
-returns c = λ d h. c.loop-d.invariant.1 d (omega arith)

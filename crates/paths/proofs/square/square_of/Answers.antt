@@ -5,9 +5,6 @@ use lib.ListN.{length-set}
 use Rattle.paths.proofs.Steps.{column_first, column_replaced, column_kept}
 use Rattle.paths.proofs.square.square_of.Goals as goal
 
-pub column_of-first-requires : goal.column_of-first-requires
-column_of-first-requires c = let network = c.requires in record { network = network; destination = network.some_node }
-
 pub loop-d-init : goal.loop-d-init
 loop-d-init c = (
   refl,
@@ -15,10 +12,6 @@ loop-d-init c = (
       let e-is : e ≡ 0 = omega arith in
       rw (e-is, column_first c.column_of-first.result) c.column_of-first.ensures,
 )
-
-pub column_of-column-requires : goal.column_of-column-requires
-column_of-column-requires c =
-    record { network = c.requires; destination = c.loop-d-test.true }
 
 pub loop-d-preserved : goal.loop-d-preserved
 loop-d-preserved c =
@@ -28,6 +21,3 @@ loop-d-preserved c =
       below_more _ _ (λ e h. rw (column_kept at.square at.d column e (λ q. omega arith)) (at.invariant.1 e h))
           (rw (column_replaced at.square at.d column (omega arith)) c.column_of-column.ensures),
     )
-
-pub returns : goal.returns
-returns c = λ d h. c.loop-d.invariant.1 d (omega arith)

@@ -1,4 +1,4 @@
-use mathlib.Core.Path.{refl, ◌∙◌}
+use mathlib.Core.Path.{◌∙◌}
 use native.Mathlib.Omega.{arith}
 use borrow.Author.Count.{below_more}
 use lib.ListN.{length-set}
@@ -7,12 +7,6 @@ use Rattle.paths.specs.inner.Square.{column_for}
 use Rattle.paths.proofs.ColumnEntry.{restarted_from_all}
 use Rattle.paths.proofs.Steps.{column_replaced, column_kept}
 use Rattle.paths.proofs.square.square_without.Goals as goal
-
-pub loop-d-init : goal.loop-d-init
-loop-d-init c = (c.well_formed.0.1.0.1, λ e h. refl, λ best e h. absurd (omega arith))
-
-pub column_without-after-requires : goal.column_without-after-requires
-column_without-after-requires c = c.requires
 
 pub loop-d-preserved : goal.loop-d-preserved
 unfolding column_for
@@ -26,6 +20,3 @@ loop-d-preserved c =
           (restarted_from_all _ (well_formed _ c.requires) _ c.column_without-after.ensures c.loop-d-test.true
           (rw (at.invariant.1 at.d (omega arith)) (best at.d c.loop-d-test.true)))),
     )
-
-pub returns : goal.returns
-returns c = λ best d h. c.loop-d.invariant.2 best d (omega arith)

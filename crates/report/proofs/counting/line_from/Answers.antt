@@ -1,5 +1,5 @@
 use Prim.Native.Nat.{ℕ, ◌≤◌}
-use mathlib.Core.Path.{◌≡◌, refl}
+use mathlib.Core.Path.{refl}
 use native.Mathlib.Omega.{arith}
 use borrow.Author.Rules.{rules}
 use lib.ListN.{length}
@@ -10,16 +10,6 @@ use Rattle.report.proofs.counting.line_from.Goals as goal
 
 pub loop-d-init : goal.loop-d-init
 loop-d-init c = record { nodes = search rules; same_trace = refl; sums = counted_none _ _ _ }
-
-pub walk_from-outcome-requires : goal.walk_from-outcome-requires
-walk_from-outcome-requires c =
-    let known = c.requires in
-    record {
-      ready = known.ready;
-      source = known.source;
-      destination = c.loop-d-test.true;
-      room = omega (arith, c.loop-d.invariant.same_trace, known.room);
-    }
 
 pub counted-more-requires : goal.counted-more-requires
 counted-more-requires c =
@@ -35,9 +25,3 @@ counted-more-requires c =
           c.loop-d-test.true known.counted c.loop-d.invariant.sums;
       short = omega (arith, c.walk_from-outcome.ensures.hops, short c.loop-d.d);
     }
-
-pub returns : goal.returns
-returns c =
-    let at = c.loop-d in
-    let all : at.d ≡ c.args.n = omega (arith, at.invariant.nodes, c.loop-d-test.false) in
-    rw all at at.invariant.sums

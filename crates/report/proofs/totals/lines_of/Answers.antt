@@ -5,23 +5,8 @@ use Rattle.tables.specs.Lent.{LentTables}
 use Rattle.report.proofs.AllLines.{held_begin, held_on, held_done, held_fits, held_on_fits}
 use Rattle.report.proofs.totals.lines_of.Goals as goal
 
-pub line_of-first-requires : goal.line_of-first-requires
-line_of-first-requires c = c.requires
-
 pub loop-k-init : goal.loop-k-init
 loop-k-init c = record { counted = search rules; held = held_begin _ c.no_walks-none.ensures c.line_of-first.ensures }
-
-pub line_of-line-requires : goal.line_of-line-requires
-line_of-line-requires c = c.requires
-
-pub overflow_add-k : goal.overflow_add-k
-overflow_add-k c = omega (arith, c.loop-k-test.true, c.requires.network.few_links)
-
-pub offset_bounds-lines-k : goal.offset_bounds-lines-k
-offset_bounds-lines-k c = omega (arith, c.loop-k-test.true, c.requires.network.few_links)
-
-pub bounds-lines-k : goal.bounds-lines-k
-bounds-lines-k c = omega (arith, c.loop-k-test.true, c.requires.network.few_links)
 
 pub overflow_add-delivered : goal.overflow_add-delivered
 overflow_add-delivered c =
