@@ -5,7 +5,6 @@ use mathlib.Core.Path.{◌≡◌, refl}
 use mathlib.Core.List.{List, [], ◌∷◌}
 use native.Mathlib.Omega.{arith}
 use base.Fml.{Fml}
-use borrow.Kind.Array.{e_struct}
 use denote.Array.{each, in_array}
 use denote.Shadow.{shadow}
 use lib.ListN.{length, get_or}
@@ -14,8 +13,6 @@ use Rattle.net.specs.Limits.{most_nodes}
 use Rattle.paths.specs.inner.Cost.{no_cost}
 use Rattle.paths.specs.inner.Column.{entry_at}
 use Rattle.paths.specs.declared.cost.Cost.{Cost}
-use Rattle.paths.specs.contracts.cost.Cost.{the_type}
-use Rattle.paths.proofs.cost.Cost.TheLaws.{the_laws, the_copy}
 
 -- what owning an array of arrays tells of the lengths of its rows
 pub rows_of : {A : Type 0} (own : A → List Val → Fml) (n : ℕ) (rows : List (List A)) (values : List Val)
@@ -34,11 +31,6 @@ pub array_shaped : {A : Type 0} (own : A → List Val → Fml) (square : List (L
     → shadow (each (List A) (in_array A own most_nodes) square values) → Shaped square
 array_shaped own square values long owned =
     record { rows = long; row = λ d h. rows_of own most_nodes square values owned d (omega arith) }
-
--- the same of a square of costs, as a function is given one
-pub square_shaped : (square : List (List Cost)) (values : List Val) → length square ≡ most_nodes
-    → shadow (each (List Cost) (in_array Cost (e_struct the_type the_laws the_copy).ty.own_val most_nodes) square values) → Shaped square
-square_shaped square values long owned = array_shaped (e_struct the_type the_laws the_copy).ty.own_val square values long owned
 
 -- within a list, any element may stand for what lies past its end
 pub within : {A : Type 0} (l : List A) (i : ℕ) (a b : A) → i < length l → get_or l i a ≡ get_or l i b

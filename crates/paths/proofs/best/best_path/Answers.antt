@@ -1,68 +1,80 @@
 -- `best_path` meets its promise: after the refusals, the entry of the column over all links gives the measures and the routing entry.
+use Prim.Native.Nat.{ℕ, ◌<◌}
 use mathlib.Core.Path.{◌≡◌, sym, ap, ◌∙◌}
+use mathlib.Core.Logic.{◌≢◌}
+use mathlib.Core.Bool.{true, false}
 use native.Mathlib.Omega.{arith}
-use lib.ListN.{get_or}
-use Rattle.graph.specs.Network.{WellFormed}
+use Rattle.graph.specs.Network.{WellFormed, link}
 use Rattle.graph.specs.Path.{All}
+use Rattle.net.specs.Entry.{here_byte, nowhere_byte}
+use Rattle.net.specs.Limits.{most_nodes}
 use Rattle.net.specs.Refusals.{accepted}
 use Rattle.net.specs.Rows.{Rows, network_of}
+use Rattle.net.specs.declared.check.Verdict.{Verdict}
+use Rattle.net.specs.inner.LinkSet.{value}
 use Rattle.net.proofs.Accepted.{well_formed}
 use Rattle.net.proofs.Bytes.{here_byte_lem}
+use Rattle.paths.specs.inner.Cost.{is_known}
 use Rattle.paths.specs.inner.Column.{Shows}
-use Rattle.paths.specs.Best.{best_path_verdict}
+use Rattle.paths.specs.Best.{best_path_verdict, BestPathAnswer}
 use Rattle.paths.specs.declared.cost.Cost.{Cost}
 use Rattle.paths.proofs.Verdict.{number, Passed, passed, answered}
 use Rattle.paths.proofs.Answers.{shown_measures, unknown_measures, here_measures, entry_shows, known_byte, unknown_byte}
 use Rattle.paths.proofs.best.best_path.Goals as goal
 
+-- the verdict has been asked for, and nothing is refused
+module _ (R : Rows) (s d : ℕ) (v : Verdict) (judged : v ≡ best_path_verdict R s d) (free : v.number ≡ accepted) where
+  accepts : (best_path_verdict R s d).number ≡ accepted
+  accepts = sym (ap number judged) ∙ free
+
+  passes : Passed R s d
+  passes = passed R s d accepts
+
+  source_place : s < most_nodes
+  source_place = omega (arith, passes.source, passes.network.few_nodes)
+
+  formed : WellFormed (network_of R)
+  formed = well_formed R passes.network
+
+  here : s ≡ d → BestPathAnswer R s d (record { number = accepted; place = 0; sum = 0; links = 0; entry = here_byte })
+  here e = answered R s d accepts (here_measures _ formed e) (here_byte_lem e)
+
+  -- the cost is read off the column of the destination
+  module _ (cost : Cost) (shown : Shows (network_of R) All s d cost) (away : s ≢ d) where
+    found : is_known cost ≡ true → BestPathAnswer R s d
+        (record { number = accepted; place = 0; sum = cost.sum; links = value cost.links; entry = link cost.first })
+    found sure = answered R s d accepts (shown_measures _ formed shown sure) (known_byte R passes.network shown away sure)
+
+    none : is_known cost ≡ false → BestPathAnswer R s d
+        (record { number = accepted; place = 0; sum = 0; links = 0; entry = nowhere_byte })
+    none lost = answered R s d accepts (unknown_measures _ formed shown lost) (unknown_byte R passes.network shown away lost)
+
 pub column_of-column-requires : goal.column_of-column-requires
 column_of-column-requires c =
-    let rows : Rows = record { nodes = c.args.n; low = c.args.low.now; high = c.args.high.now; weight = c.args.weight.now } in
-    let accepts : (best_path_verdict (rows) c.args.source.0 c.args.destination.0).number ≡ accepted = sym (ap number c.best_path_verdict-verdict.ensures) ∙ c.if-verdict-ne-NONE.false in
-    let known_of : Passed (rows) c.args.source.0 c.args.destination.0 = passed _ _ _ (accepts) in
-    let known = known_of in record { network = known.network; destination = known.destination }
+    let at = passes _ _ _ _ c.best_path_verdict-verdict.ensures c.if-verdict-ne-NONE.false in
+    record { network = at.network; destination = at.destination }
 
 pub offset_bounds-column-s : goal.offset_bounds-column-s
-offset_bounds-column-s c =
-    let rows : Rows = record { nodes = c.args.n; low = c.args.low.now; high = c.args.high.now; weight = c.args.weight.now } in
-    let accepts : (best_path_verdict (rows) c.args.source.0 c.args.destination.0).number ≡ accepted = sym (ap number c.best_path_verdict-verdict.ensures) ∙ c.if-verdict-ne-NONE.false in
-    let known_of : Passed (rows) c.args.source.0 c.args.destination.0 = passed _ _ _ (accepts) in
-    let known = known_of in omega (arith, known.network.few_nodes)
+offset_bounds-column-s c = omega (arith, source_place _ _ _ _ c.best_path_verdict-verdict.ensures c.if-verdict-ne-NONE.false)
 
 pub bounds-column-s : goal.bounds-column-s
-bounds-column-s c =
-    let rows : Rows = record { nodes = c.args.n; low = c.args.low.now; high = c.args.high.now; weight = c.args.weight.now } in
-    let accepts : (best_path_verdict (rows) c.args.source.0 c.args.destination.0).number ≡ accepted = sym (ap number c.best_path_verdict-verdict.ensures) ∙ c.if-verdict-ne-NONE.false in
-    let known_of : Passed (rows) c.args.source.0 c.args.destination.0 = passed _ _ _ (accepts) in
-    let known = known_of in omega (arith, known.network.few_nodes)
+bounds-column-s c = omega (arith, source_place _ _ _ _ c.best_path_verdict-verdict.ensures c.if-verdict-ne-NONE.false)
 
 pub returns-then-s-d : goal.returns-then-s-d
-returns-then-s-d c =
-    let rows : Rows = record { nodes = c.args.n; low = c.args.low.now; high = c.args.high.now; weight = c.args.weight.now } in
-    let accepts : (best_path_verdict (rows) c.args.source.0 c.args.destination.0).number ≡ accepted = sym (ap number c.best_path_verdict-verdict.ensures) ∙ c.if-verdict-ne-NONE.false in
-    let known_of : Passed (rows) c.args.source.0 c.args.destination.0 = passed _ _ _ (accepts) in
-    let formed : WellFormed (network_of (rows)) = well_formed _ (known_of).network in
-    answered _ _ _ (accepts) (here_measures _ (formed) c.if-s-d.true) (here_byte_lem c.if-s-d.true)
+returns-then-s-d c = here _ _ _ _ c.best_path_verdict-verdict.ensures c.if-verdict-ne-NONE.false c.if-s-d.true
 
 pub returns-then-known : goal.returns-then-known
 returns-then-known c =
-    let rows : Rows = record { nodes = c.args.n; low = c.args.low.now; high = c.args.high.now; weight = c.args.weight.now } in
-    let accepts : (best_path_verdict (rows) c.args.source.0 c.args.destination.0).number ≡ accepted = sym (ap number c.best_path_verdict-verdict.ensures) ∙ c.if-verdict-ne-NONE.false in
-    let known_of : Passed (rows) c.args.source.0 c.args.destination.0 = passed _ _ _ (accepts) in
-    let formed : WellFormed (network_of (rows)) = well_formed _ (known_of).network in
-    let shown : (past : Cost) → Shows (network_of rows) All c.args.source.0 c.args.destination.0 (get_or c.column_of-column.result c.args.source.0 past) = λ past. entry_shows _ (known_of) c.column_of-column.type_inv.1.0.1 c.column_of-column.ensures past in
-    let sure = sym c.known.ensures ∙ c.if-known.true in
-    answered _ _ _ (accepts)
-    (rw c.number_of.ensures (shown_measures _ (formed) (shown _) sure))
-    (rw c.onward.ensures (known_byte _ (known_of).network (shown _) c.if-s-d.false sure))
+    let judged = c.best_path_verdict-verdict.ensures in
+    let free = c.if-verdict-ne-NONE.false in
+    let column = c.column_of-column in
+    let shown = entry_shows _ (passes _ _ _ _ judged free) column.type_inv.1.0.1 column.ensures _ in
+    rw (c.number_of.ensures, c.onward.ensures) (found _ _ _ _ judged free _ shown c.if-s-d.false (sym c.known.ensures ∙ c.if-known.true))
 
 pub returns : goal.returns
 returns c =
-    let rows : Rows = record { nodes = c.args.n; low = c.args.low.now; high = c.args.high.now; weight = c.args.weight.now } in
-    let accepts : (best_path_verdict (rows) c.args.source.0 c.args.destination.0).number ≡ accepted = sym (ap number c.best_path_verdict-verdict.ensures) ∙ c.if-verdict-ne-NONE.false in
-    let known_of : Passed (rows) c.args.source.0 c.args.destination.0 = passed _ _ _ (accepts) in
-    let formed : WellFormed (network_of (rows)) = well_formed _ (known_of).network in
-    let shown : (past : Cost) → Shows (network_of rows) All c.args.source.0 c.args.destination.0 (get_or c.column_of-column.result c.args.source.0 past) = λ past. entry_shows _ (known_of) c.column_of-column.type_inv.1.0.1 c.column_of-column.ensures past in
-    let lost = sym c.known.ensures ∙ c.if-known.false in
-    answered _ _ _ (accepts) (unknown_measures _ (formed) (shown _) lost)
-    (unknown_byte _ (known_of).network (shown _) c.if-s-d.false lost)
+    let judged = c.best_path_verdict-verdict.ensures in
+    let free = c.if-verdict-ne-NONE.false in
+    let column = c.column_of-column in
+    let shown = entry_shows _ (passes _ _ _ _ judged free) column.type_inv.1.0.1 column.ensures _ in
+    none _ _ _ _ judged free _ shown c.if-s-d.false (sym c.known.ensures ∙ c.if-known.false)

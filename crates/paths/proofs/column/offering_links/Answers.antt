@@ -1,8 +1,7 @@
-use Prim.Native.Nat.{◌<◌}
 use mathlib.Core.Path.{◌≡◌, sym, ◌∙◌}
 use mathlib.Core.Logic.{inl, inr}
 use native.Mathlib.Omega.{arith}
-use lib.ListN.{length, get_or}
+use lib.ListN.{length}
 use Rattle.net.specs.Limits.{most_nodes}
 use Rattle.paths.proofs.Steps.{offering_begin, offering_done, offering_on}
 use Rattle.paths.proofs.column.offering_links.Goals.{then-makes_offers, else-makes_offers}
@@ -13,14 +12,13 @@ loop-k-init c = rw c.empty-offering.ensures (offering_begin _ _ _ _)
 
 pub loop-k-preserved : goal.loop-k-preserved
 loop-k-preserved c =
-    let places : let args = c.args in
-    (get_or args.low.now c.loop-k.k 0 < most_nodes) × (get_or args.high.now c.loop-k.k 0 < most_nodes) = let h = c.loop-k-test.true in
-    (c.requires.low_place _ h, c.requires.high_place _ h) in
     let at = c.loop-k in
-    let ends = places in
+    let h = c.loop-k-test.true in
+    let low_place = c.requires.low_place _ h in
+    let high_place = c.requires.high_place _ h in
     let long : length c.args.given ≡ most_nodes = c.well_formed.0.1.0.1 in
     at.invariant
-    ∙ offering_on _ _ _ _ _ at.k _ c.loop-k-test.true (omega arith) (omega arith) _ c.makes_offers.ensures
+    ∙ offering_on _ _ _ _ _ at.k _ h (omega arith) (omega arith) _ c.makes_offers.ensures
     (elim c.if-makes_offers.branch [
       | then-makes_offers w ↦ inl (w.if-makes_offers.true, w.offering-is ∙ w.with_link-more.ensures)
       | else-makes_offers w ↦ inr (w.if-makes_offers.false, w.offering-is)

@@ -1,117 +1,56 @@
-use Prim.Native.Nat.{◌<◌}
-use mathlib.Core.Path.{sym, ap, ◌∙◌}
+use Prim.Native.Nat.{ℕ, ◌<◌}
+use mathlib.Core.Path.{◌≡◌, sym, ap, ◌∙◌}
+use mathlib.Core.Bool.{Bool}
 use mathlib.Core.Logic.{inl, inr}
 use native.Mathlib.Omega.{arith}
 use lib.ListN.{length, get_or}
-use Rattle.net.specs.Limits.{most_nodes}
+use Rattle.paths.specs.inner.Rounds.{turn_of}
 use Rattle.paths.specs.declared.column.Revised.{Revised}
 use Rattle.paths.proofs.Columns.{turn_below}
 use Rattle.paths.proofs.Steps.{stored, link_offered, round_begin, round_done, round_skip, round_on}
 use Rattle.paths.proofs.column.round.Goals.{then-comes_before, else-comes_before, then-has_link+then-comes_before-2, then-has_link+else-comes_before-2, else-has_link}
 use Rattle.paths.proofs.column.round.Goals as goal
 
+-- each turn is that of a link, as the code took it
+in_rows : (links : ℕ) (upward : Bool) (j k : ℕ) → j < links → k ≡ turn_of links upward j → k < links
+in_rows links upward j k h whose = rw whose (turn_below links upward j h)
+
 pub loop-j-init : goal.loop-j-init
 loop-j-init c =
     (c.well_formed.0.1.0.1, round_begin _ _ _ _ _ c.args.column)
 
 pub bounds-low-k : goal.bounds-low-k
-bounds-low-k c =
-    let places : let args = c.args in let k = c.turn_of-k.result in
-    (k < length args.low.now) × (get_or args.low.now k 0 < most_nodes) × (get_or args.high.now k 0 < most_nodes) = let ends = c.requires.ends in
-    let below = turn_below (length c.args.low.now) c.args.upward _ c.loop-j-test.true in
-    let h : c.turn_of-k.result < length c.args.low.now = omega (arith, below, c.turn_of-k.ensures) in
-    (h, ends.low_place _ h, ends.high_place _ h) in
-    let ends = places in omega arith
+bounds-low-k c = in_rows _ _ _ _ c.loop-j-test.true c.turn_of-k.ensures
 
 pub bounds-high-k : goal.bounds-high-k
-bounds-high-k c =
-    let places : let args = c.args in let k = c.turn_of-k.result in
-    (k < length args.low.now) × (get_or args.low.now k 0 < most_nodes) × (get_or args.high.now k 0 < most_nodes) = let ends = c.requires.ends in
-    let below = turn_below (length c.args.low.now) c.args.upward _ c.loop-j-test.true in
-    let h : c.turn_of-k.result < length c.args.low.now = omega (arith, below, c.turn_of-k.ensures) in
-    (h, ends.low_place _ h, ends.high_place _ h) in
-    let ends = places in omega arith
+bounds-high-k c = omega (arith, in_rows _ _ _ _ c.loop-j-test.true c.turn_of-k.ensures)
 
 pub offset_bounds-weight-k : goal.offset_bounds-weight-k
-offset_bounds-weight-k c =
-    let places : let args = c.args in let k = c.turn_of-k.result in
-    (k < length args.low.now) × (get_or args.low.now k 0 < most_nodes) × (get_or args.high.now k 0 < most_nodes) = let ends = c.requires.ends in
-    let below = turn_below (length c.args.low.now) c.args.upward _ c.loop-j-test.true in
-    let h : c.turn_of-k.result < length c.args.low.now = omega (arith, below, c.turn_of-k.ensures) in
-    (h, ends.low_place _ h, ends.high_place _ h) in
-    let ends = places in omega arith
+offset_bounds-weight-k c = omega (arith, in_rows _ _ _ _ c.loop-j-test.true c.turn_of-k.ensures)
 
 pub bounds-weight-k : goal.bounds-weight-k
-bounds-weight-k c =
-    let places : let args = c.args in let k = c.turn_of-k.result in
-    (k < length args.low.now) × (get_or args.low.now k 0 < most_nodes) × (get_or args.high.now k 0 < most_nodes) = let ends = c.requires.ends in
-    let below = turn_below (length c.args.low.now) c.args.upward _ c.loop-j-test.true in
-    let h : c.turn_of-k.result < length c.args.low.now = omega (arith, below, c.turn_of-k.ensures) in
-    (h, ends.low_place _ h, ends.high_place _ h) in
-    let ends = places in omega arith
+bounds-weight-k c = omega (arith, in_rows _ _ _ _ c.loop-j-test.true c.turn_of-k.ensures)
 
 pub overflow_mul-k : goal.overflow_mul-k
-overflow_mul-k c =
-    let places : let args = c.args in let k = c.turn_of-k.result in
-    (k < length args.low.now) × (get_or args.low.now k 0 < most_nodes) × (get_or args.high.now k 0 < most_nodes) = let ends = c.requires.ends in
-    let below = turn_below (length c.args.low.now) c.args.upward _ c.loop-j-test.true in
-    let h : c.turn_of-k.result < length c.args.low.now = omega (arith, below, c.turn_of-k.ensures) in
-    (h, ends.low_place _ h, ends.high_place _ h) in
-    let ends = places in omega arith
+overflow_mul-k c = omega (arith, in_rows _ _ _ _ c.loop-j-test.true c.turn_of-k.ensures)
 
 pub overflow_cast-k : goal.overflow_cast-k
-overflow_cast-k c =
-    let places : let args = c.args in let k = c.turn_of-k.result in
-    (k < length args.low.now) × (get_or args.low.now k 0 < most_nodes) × (get_or args.high.now k 0 < most_nodes) = let ends = c.requires.ends in
-    let below = turn_below (length c.args.low.now) c.args.upward _ c.loop-j-test.true in
-    let h : c.turn_of-k.result < length c.args.low.now = omega (arith, below, c.turn_of-k.ensures) in
-    (h, ends.low_place _ h, ends.high_place _ h) in
-    let ends = places in omega arith
+overflow_cast-k c = omega (arith, in_rows _ _ _ _ c.loop-j-test.true c.turn_of-k.ensures)
 
 pub extend-to_low-requires : goal.extend-to_low-requires
-extend-to_low-requires c =
-    let places : let args = c.args in let k = c.turn_of-k.result in
-    (k < length args.low.now) × (get_or args.low.now k 0 < most_nodes) × (get_or args.high.now k 0 < most_nodes) = let ends = c.requires.ends in
-    let below = turn_below (length c.args.low.now) c.args.upward _ c.loop-j-test.true in
-    let h : c.turn_of-k.result < length c.args.low.now = omega (arith, below, c.turn_of-k.ensures) in
-    (h, ends.low_place _ h, ends.high_place _ h) in
-    let ends = places in omega arith
+extend-to_low-requires c = omega (arith, in_rows _ _ _ _ c.loop-j-test.true c.turn_of-k.ensures)
 
 pub overflow_mul-k-then-has_link : goal.overflow_mul-k-then-has_link
-overflow_mul-k-then-has_link c =
-    let places : let args = c.args in let k = c.turn_of-k.result in
-    (k < length args.low.now) × (get_or args.low.now k 0 < most_nodes) × (get_or args.high.now k 0 < most_nodes) = let ends = c.requires.ends in
-    let below = turn_below (length c.args.low.now) c.args.upward _ c.loop-j-test.true in
-    let h : c.turn_of-k.result < length c.args.low.now = omega (arith, below, c.turn_of-k.ensures) in
-    (h, ends.low_place _ h, ends.high_place _ h) in
-    let ends = places in omega arith
+overflow_mul-k-then-has_link c = omega (arith, in_rows _ _ _ _ c.loop-j-test.true c.turn_of-k.ensures)
 
 pub overflow_add-k : goal.overflow_add-k
-overflow_add-k c =
-    let places : let args = c.args in let k = c.turn_of-k.result in
-    (k < length args.low.now) × (get_or args.low.now k 0 < most_nodes) × (get_or args.high.now k 0 < most_nodes) = let ends = c.requires.ends in
-    let below = turn_below (length c.args.low.now) c.args.upward _ c.loop-j-test.true in
-    let h : c.turn_of-k.result < length c.args.low.now = omega (arith, below, c.turn_of-k.ensures) in
-    (h, ends.low_place _ h, ends.high_place _ h) in
-    let ends = places in omega arith
+overflow_add-k c = omega (arith, in_rows _ _ _ _ c.loop-j-test.true c.turn_of-k.ensures)
 
 pub overflow_cast-k-then-has_link : goal.overflow_cast-k-then-has_link
-overflow_cast-k-then-has_link c =
-    let places : let args = c.args in let k = c.turn_of-k.result in
-    (k < length args.low.now) × (get_or args.low.now k 0 < most_nodes) × (get_or args.high.now k 0 < most_nodes) = let ends = c.requires.ends in
-    let below = turn_below (length c.args.low.now) c.args.upward _ c.loop-j-test.true in
-    let h : c.turn_of-k.result < length c.args.low.now = omega (arith, below, c.turn_of-k.ensures) in
-    (h, ends.low_place _ h, ends.high_place _ h) in
-    let ends = places in omega arith
+overflow_cast-k-then-has_link c = omega (arith, in_rows _ _ _ _ c.loop-j-test.true c.turn_of-k.ensures)
 
 pub extend-to_high-requires : goal.extend-to_high-requires
-extend-to_high-requires c =
-    let places : let args = c.args in let k = c.turn_of-k.result in
-    (k < length args.low.now) × (get_or args.low.now k 0 < most_nodes) × (get_or args.high.now k 0 < most_nodes) = let ends = c.requires.ends in
-    let below = turn_below (length c.args.low.now) c.args.upward _ c.loop-j-test.true in
-    let h : c.turn_of-k.result < length c.args.low.now = omega (arith, below, c.turn_of-k.ensures) in
-    (h, ends.low_place _ h, ends.high_place _ h) in
-    let ends = places in omega arith
+extend-to_high-requires c = omega (arith, in_rows _ _ _ _ c.loop-j-test.true c.turn_of-k.ensures)
 
 pub loop-j-preserved : goal.loop-j-preserved
 loop-j-preserved c =
@@ -124,10 +63,9 @@ loop-j-preserved c =
     let h = c.loop-j-test.true in
     let whose = c.turn_of-k.ensures in
     let asked = c.has_link.ensures in
-    let below = turn_below (length low) args.upward _ h in
-    let in_rows : k < length low = omega (arith, below, whose) in
-    let low_place = c.requires.ends.low_place _ in_rows in
-    let high_place = c.requires.ends.high_place _ in_rows in
+    let row : k < length low = in_rows _ _ _ _ h whose in
+    let low_place = c.requires.ends.low_place _ row in
+    let high_place = c.requires.ends.high_place _ row in
     elim c.if-has_link.branch [
       | then-has_link+then-comes_before-2 w ↦
           let first = stored (elim w.if-comes_before.branch [

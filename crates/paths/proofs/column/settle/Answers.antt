@@ -1,16 +1,11 @@
-use Prim.Native.Nat.{◌-◌}
-use mathlib.Core.Path.{◌≡◌, sym, ◌∙◌}
+use mathlib.Core.Path.{sym, ◌∙◌}
 use borrow.Author.Tests.{not-true, not-false}
-use Rattle.paths.specs.inner.Rounds.{rounds_from, settled}
 use Rattle.paths.proofs.Steps.{rounds_begin, rounds_done, rounds_still, rounds_on}
-use Rattle.paths.proofs.column.settle.Invariants.{rows}
 use Rattle.paths.proofs.column.settle.Goals as goal
 
 pub returns-then-not-one : goal.returns-then-not-one
 returns-then-not-one c =
-    let whole : let args = c.args in let at = c.loop-r in
-    let R = rows args.n args.low.now args.high.now args.weight.now in
-    settled R args.out args.given ≡ rounds_from (args.n - at.r) R c.offering_links-offering.result at.upward at.column = rounds_begin _ _ _ c.offering_links-offering.ensures ∙ c.loop-r.invariant in
+    let whole = rounds_begin _ _ _ c.offering_links-offering.ensures ∙ c.loop-r.invariant in
     let at = c.loop-r in
     let one = c.round-one.ensures in
     sym (whole ∙ rounds_still _ _ _ at.r _ c.loop-r-test.true one (not-true _ c.if-not-one.true))
@@ -23,7 +18,5 @@ loop-r-preserved c =
 
 pub returns : goal.returns
 returns c =
-    let whole : let args = c.args in let at = c.loop-r in
-    let R = rows args.n args.low.now args.high.now args.weight.now in
-    settled R args.out args.given ≡ rounds_from (args.n - at.r) R c.offering_links-offering.result at.upward at.column = rounds_begin _ _ _ c.offering_links-offering.ensures ∙ c.loop-r.invariant in
+    let whole = rounds_begin _ _ _ c.offering_links-offering.ensures ∙ c.loop-r.invariant in
     sym (whole ∙ rounds_done _ _ _ c.loop-r.r _ c.loop-r-test.false)

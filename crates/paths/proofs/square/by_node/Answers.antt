@@ -4,16 +4,16 @@ use lib.ListN.{get_or}
 use Rattle.paths.specs.inner.Cost.{no_cost}
 use Rattle.paths.specs.inner.Column.{entry_at}
 use Rattle.paths.specs.inner.Square.{column_for}
-use Rattle.paths.proofs.Shape.{Shaped, square_shaped, within}
+use Rattle.paths.proofs.Shape.{Shaped, array_shaped, within}
 use Rattle.paths.proofs.Turning.{turned_start, turned_more}
 use Rattle.paths.proofs.square.by_node.Goals as goal
 
 pub loop-i-init : goal.loop-i-init
-loop-i-init c = turned_start no_cost (square_shaped c.args.square c.well_formed.0.0 c.well_formed.0.1.0.1 c.well_formed.0.1.1)
+loop-i-init c = turned_start no_cost (search array_shaped)
 
 pub loop-d-preserved : goal.loop-d-preserved
 loop-d-preserved c =
-    let shaped : Shaped c.args.square = square_shaped c.args.square c.well_formed.0.0 c.well_formed.0.1.0.1 c.well_formed.0.1.1 in
+    let shaped : Shaped c.args.square = search array_shaped in
     let i = c.loop-i.i in
     let at = c.loop-d in
     turned_more no_cost at.invariant (omega arith) (omega arith)

@@ -1,10 +1,5 @@
-use Prim.Native.Nat.{ℕ, ◌≤◌}
 use mathlib.Core.Path.{refl}
-use native.Mathlib.Omega.{arith}
 use borrow.Author.Rules.{rules}
-use lib.ListN.{length}
-use Rattle.net.specs.Limits.{report_hops}
-use Rattle.report.specs.inner.Counting.{course_at}
 use Rattle.report.proofs.Walks.{course_short, counted_none, walks_fit}
 use Rattle.report.proofs.counting.line_from.Goals as goal
 
@@ -13,15 +8,10 @@ loop-d-init c = record { nodes = search rules; same_trace = refl; sums = counted
 
 pub counted-more-requires : goal.counted-more-requires
 counted-more-requires c =
-    let short : (d : ℕ)
-    → let a = c.args in
-    length (course_at (record { nodes = a.n; low = a.low.now; high = a.high.now; weight = a.weight.now })
-    (record { routing = a.routing.now; forwarding = a.forwarding.now; backwarding = a.backwarding.now })
-    a.failure a.source.0 d).crossed ≤ report_hops = λ d. course_short _ _ _ _ d in
     let known = c.requires in
     record {
       counted =
-          walks_fit _ _ _ short known.ready.network.few_nodes known.source
+          walks_fit _ _ _ (course_short _ _ _ _) known.ready.network.few_nodes known.source
           c.loop-d-test.true known.counted c.loop-d.invariant.sums;
-      short = omega (arith, c.walk_from-outcome.ensures.hops, short c.loop-d.d);
+      short = rw c.walk_from-outcome.ensures.hops (course_short _ _ _ _ _);
     }

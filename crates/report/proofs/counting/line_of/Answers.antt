@@ -1,8 +1,6 @@
 use mathlib.Core.Path.{◌≡◌, refl, ◌∙◌}
 use native.Mathlib.Omega.{arith}
 use borrow.Author.Rules.{rules}
-use Rattle.net.specs.Rows.{Rows}
-use Rattle.tables.specs.Lent.{LentTables}
 use Rattle.report.proofs.Walks.{course_short, source_none, source_counted, sources_all, sources_at_most}
 use Rattle.report.proofs.counting.line_of.Goals as goal
 
@@ -11,14 +9,11 @@ loop-s-init c = record { nodes = search rules; room = refl; sums = c.no_walks-li
 
 pub line_from-more-requires : goal.line_from-more-requires
 line_from-more-requires c =
-    let a = c.args in
-    let R : Rows = record { nodes = a.n; low = a.low.now; high = a.high.now; weight = a.weight.now } in
-    let T : LentTables = record { routing = a.routing.now; forwarding = a.forwarding.now; backwarding = a.backwarding.now } in
     record {
       ready = c.requires;
       source = c.loop-s-test.true;
       room = omega (arith, c.loop-s.invariant.room);
-      counted = rw c.loop-s.invariant.sums (sources_at_most _ _ (course_short R T c.args.failure) c.loop-s.s);
+      counted = rw c.loop-s.invariant.sums (sources_at_most _ _ (course_short _ _ _) c.loop-s.s);
     }
 
 pub loop-s-preserved : goal.loop-s-preserved
@@ -33,8 +28,5 @@ loop-s-preserved c =
 
 pub returns : goal.returns
 returns c =
-    let a = c.args in
-    let R : Rows = record { nodes = a.n; low = a.low.now; high = a.high.now; weight = a.weight.now } in
-    let T : LentTables = record { routing = a.routing.now; forwarding = a.forwarding.now; backwarding = a.backwarding.now } in
-    let all : c.loop-s.s ≡ R.nodes = omega (arith, c.loop-s.invariant.nodes, c.loop-s-test.false) in
-    (rw all at c.loop-s.invariant.sums) ∙ sources_all R T c.args.failure
+    let all : c.loop-s.s ≡ c.args.n = omega (arith, c.loop-s.invariant.nodes, c.loop-s-test.false) in
+    (rw all at c.loop-s.invariant.sums) ∙ sources_all _ _ _

@@ -1,7 +1,5 @@
 use native.Mathlib.Omega.{arith}
 use borrow.Author.Rules.{rules}
-use Rattle.net.specs.Rows.{Rows}
-use Rattle.tables.specs.Lent.{LentTables}
 use Rattle.report.proofs.AllLines.{held_begin, held_on, held_done, held_fits, held_on_fits}
 use Rattle.report.proofs.totals.lines_of.Goals as goal
 
@@ -10,18 +8,12 @@ loop-k-init c = record { counted = search rules; held = held_begin _ c.no_walks-
 
 pub overflow_add-delivered : goal.overflow_add-delivered
 overflow_add-delivered c =
-    let a = c.args in
-    let R : Rows = record { nodes = a.n; low = a.low.now; high = a.high.now; weight = a.weight.now } in
-    let T : LentTables = record { routing = a.routing.now; forwarding = a.forwarding.now; backwarding = a.backwarding.now } in
-    let fits = held_on_fits R T c.requires.network.few_nodes c.loop-k.invariant.held c.line_of-line.ensures in
+    let fits = held_on_fits _ _ c.requires.network.few_nodes c.loop-k.invariant.held c.line_of-line.ensures in
     omega (arith, fits.0, c.loop-k-test.true, c.requires.network.few_links)
 
 pub overflow_add-dropped : goal.overflow_add-dropped
 overflow_add-dropped c =
-    let a = c.args in
-    let R : Rows = record { nodes = a.n; low = a.low.now; high = a.high.now; weight = a.weight.now } in
-    let T : LentTables = record { routing = a.routing.now; forwarding = a.forwarding.now; backwarding = a.backwarding.now } in
-    let fits = held_on_fits R T c.requires.network.few_nodes c.loop-k.invariant.held c.line_of-line.ensures in
+    let fits = held_on_fits _ _ c.requires.network.few_nodes c.loop-k.invariant.held c.line_of-line.ensures in
     omega (arith, fits.1, c.loop-k-test.true, c.requires.network.few_links)
 
 pub loop-k-preserved : goal.loop-k-preserved
@@ -35,10 +27,7 @@ loop-k-preserved c =
 
 pub overflow_add-result : goal.overflow_add-result
 overflow_add-result c =
-    let a = c.args in
-    let R : Rows = record { nodes = a.n; low = a.low.now; high = a.high.now; weight = a.weight.now } in
-    let T : LentTables = record { routing = a.routing.now; forwarding = a.forwarding.now; backwarding = a.backwarding.now } in
-    let fits = held_fits R T c.requires.network.few_nodes c.loop-k.invariant.held in
+    let fits = held_fits _ _ c.requires.network.few_nodes c.loop-k.invariant.held in
     omega (arith, fits.0, fits.1, c.loop-k.invariant.counted, c.requires.network.few_links)
 
 pub returns : goal.returns
