@@ -57,15 +57,16 @@ loop-j-preserved c =
     let args = c.args in
     let low = args.low.now in
     let high = args.high.now in
+    let weight = args.weight.now in
     let at = c.loop-j in
     let s : Revised = record { column = at.next; changed = at.changed } in
     let k = c.turn_of-k.result in
     let h = c.loop-j-test.true in
     let whose = c.turn_of-k.ensures in
-    let asked = c.has_link.ensures in
     let row : k < length low = in_rows _ _ _ _ h whose in
     let low_place = c.requires.ends.low_place _ row in
     let high_place = c.requires.ends.high_place _ row in
+    let on = round_on low high weight args.offering args.upward at.j s h whose c.has_link.ensures in
     elim c.if-has_link.branch [
       | then-has_link+then-comes_before-2 w ↦
           let first = stored (elim w.if-comes_before.branch [
@@ -73,28 +74,24 @@ loop-j-preserved c =
             | else-comes_before v ↦ inr (v.if-comes_before.false, v.next-is, v.changed-is)
           ]) in
           let second = stored (inl (w.if-comes_before-2.true, w.next-is, w.changed-is)) in
-          let offers = link_offered k (get_or low k 0) (get_or high k 0) _ s (omega arith) (omega arith) _ w.extend-to_low.ensures
+          let made = link_offered k (get_or low k 0) (get_or high k 0) _ s (omega arith) (omega arith) _ w.extend-to_low.ensures
           w.comes_before.ensures first w.extend-to_high.ensures w.comes_before-then-has_link.ensures second in
-          let on = round_on low high args.weight.now _ args.upward at.j s h whose asked w.if-has_link.true _ offers.0 in
-          (offers.1 ∙ at.invariant.0, at.invariant.1 ∙ on)
+          (made.1 ∙ at.invariant.0, at.invariant.1 ∙ on w.if-has_link.true _ made.0)
       | then-has_link+else-comes_before-2 w ↦
           let first = stored (elim w.if-comes_before.branch [
             | then-comes_before v ↦ inl (v.if-comes_before.true, v.next-is, v.changed-is)
             | else-comes_before v ↦ inr (v.if-comes_before.false, v.next-is, v.changed-is)
           ]) in
           let second = stored (inr (w.if-comes_before-2.false, w.next-is, w.changed-is)) in
-          let offers = link_offered k (get_or low k 0) (get_or high k 0) _ s (omega arith) (omega arith) _ w.extend-to_low.ensures
+          let made = link_offered k (get_or low k 0) (get_or high k 0) _ s (omega arith) (omega arith) _ w.extend-to_low.ensures
           w.comes_before.ensures first w.extend-to_high.ensures w.comes_before-then-has_link.ensures second in
-          let on = round_on low high args.weight.now _ args.upward at.j s h whose asked w.if-has_link.true _ offers.0 in
-          (offers.1 ∙ at.invariant.0, at.invariant.1 ∙ on)
+          (made.1 ∙ at.invariant.0, at.invariant.1 ∙ on w.if-has_link.true _ made.0)
       | else-has_link w ↦
-          let skip = round_skip low high args.weight.now _ args.upward at.j s h whose asked w.if-has_link.false in
+          let skip = round_skip low high weight args.offering args.upward at.j s h whose c.has_link.ensures w.if-has_link.false in
           (ap length w.next-is ∙ at.invariant.0, rw (w.next-is, w.changed-is) (at.invariant.1 ∙ skip))
     ]
 
 pub returns : goal.returns
 returns c =
     let at = c.loop-j in
-    let args = c.args in
-    sym (at.invariant.1
-    ∙ round_done args.low.now args.high.now args.weight.now args.offering args.upward at.j _ c.loop-j-test.false)
+    sym (at.invariant.1 ∙ round_done _ _ _ _ _ at.j _ c.loop-j-test.false)
