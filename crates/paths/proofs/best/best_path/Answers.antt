@@ -4,6 +4,8 @@ use mathlib.Core.Path.{◌≡◌, sym, ap, ◌∙◌}
 use mathlib.Core.Logic.{◌≢◌}
 use mathlib.Core.Bool.{true, false}
 use native.Mathlib.Omega.{arith}
+use mathlib.Core.List.{List}
+use lib.ListN.{length, get_or}
 use Rattle.graph.specs.Network.{WellFormed, link}
 use Rattle.graph.specs.Path.{All}
 use Rattle.net.specs.Entry.{here_byte, nowhere_byte}
@@ -15,7 +17,7 @@ use Rattle.net.specs.inner.LinkSet.{value}
 use Rattle.net.proofs.Accepted.{well_formed}
 use Rattle.net.proofs.Bytes.{here_byte_lem}
 use Rattle.paths.specs.inner.Cost.{is_known}
-use Rattle.paths.specs.inner.Column.{Shows}
+use Rattle.paths.specs.inner.Column.{Shows, BestColumn}
 use Rattle.paths.specs.Best.{best_path_verdict, BestPathAnswer}
 use Rattle.paths.specs.declared.cost.Cost.{Cost}
 use Rattle.paths.proofs.Verdict.{number, Passed, passed, answered}
@@ -39,8 +41,15 @@ module _ (R : Rows) (s d : ℕ) (v : Verdict) (judged : v ≡ best_path_verdict 
   here : s ≡ d → BestPathAnswer R s d (record { number = accepted; place = 0; sum = 0; links = 0; entry = here_byte })
   here e = answered R s d accepts (here_measures _ formed e) (here_byte_lem e)
 
-  -- the cost is read off the column of the destination
-  module _ (cost : Cost) (shown : Shows (network_of R) All s d cost) (away : s ≢ d) where
+  -- away from the destination, the cost is read off the column, whatever it would be past the array's end
+  module _ {column : List Cost} (long : length column ≡ most_nodes) (best : BestColumn (network_of R) All d column) (past : Cost)
+      (away : s ≢ d) where
+    abbrev cost : Cost
+    cost = get_or column s past
+
+    shown : Shows (network_of R) All s d cost
+    shown = entry_shows R passes long best past
+
     found : is_known cost ≡ true → BestPathAnswer R s d
         (record { number = accepted; place = 0; sum = cost.sum; links = value cost.links; entry = link cost.first })
     found sure = answered R s d accepts (shown_measures _ formed shown sure) (known_byte R passes.network shown away sure)
@@ -65,16 +74,11 @@ returns-then-s-d c = here _ _ _ _ c.best_path_verdict-verdict.ensures c.if-verdi
 
 pub returns-then-known : goal.returns-then-known
 returns-then-known c =
-    let judged = c.best_path_verdict-verdict.ensures in
-    let free = c.if-verdict-ne-NONE.false in
-    let column = c.column_of-column in
-    let shown = entry_shows _ (passes _ _ _ _ judged free) column.type_inv.1.0.1 column.ensures _ in
-    rw (c.number_of.ensures, c.onward.ensures) (found _ _ _ _ judged free _ shown c.if-s-d.false (sym c.known.ensures ∙ c.if-known.true))
+    rw (c.number_of.ensures, c.onward.ensures)
+    (found _ _ _ _ c.best_path_verdict-verdict.ensures c.if-verdict-ne-NONE.false c.column_of-column.type_inv.1.0.1
+    c.column_of-column.ensures _ c.if-s-d.false (sym c.known.ensures ∙ c.if-known.true))
 
 pub returns : goal.returns
 returns c =
-    let judged = c.best_path_verdict-verdict.ensures in
-    let free = c.if-verdict-ne-NONE.false in
-    let column = c.column_of-column in
-    let shown = entry_shows _ (passes _ _ _ _ judged free) column.type_inv.1.0.1 column.ensures _ in
-    none _ _ _ _ judged free _ shown c.if-s-d.false (sym c.known.ensures ∙ c.if-known.false)
+    none _ _ _ _ c.best_path_verdict-verdict.ensures c.if-verdict-ne-NONE.false c.column_of-column.type_inv.1.0.1
+    c.column_of-column.ensures _ c.if-s-d.false (sym c.known.ensures ∙ c.if-known.false)

@@ -17,7 +17,7 @@ loop-d-preserved c =
     let i = c.loop-i.i in
     let at = c.loop-d in
     turned_more no_cost at.invariant (omega arith) (omega arith)
-    (within (get_or c.args.square at.d []) i _ no_cost (omega (arith, (shaped).row at.d (omega arith))))
+    (within (get_or c.args.square at.d []) i _ no_cost (omega (arith, shaped.row at.d (omega arith))))
 
 pub returns : goal.returns
 unfolding column_for entry_at
