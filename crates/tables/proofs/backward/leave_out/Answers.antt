@@ -3,12 +3,9 @@ use mathlib.Core.Path.{sym, ◌∙◌}
 use native.Mathlib.Omega.{arith}
 use lib.ListN.{length}
 use Rattle.tables.proofs.Building.{row_room}
-use Rattle.tables.proofs.LeavingNodes.{nodes_start, nodes_done, node_without_keys, node_with_keys, back_keys}
+use Rattle.tables.proofs.LeavingNodes.{nodes_done, node_without_keys, node_with_keys, back_keys}
 use Rattle.tables.proofs.backward.leave_out.Goals.{then-not-is_empty, else-not-is_empty}
 use Rattle.tables.proofs.backward.leave_out.Goals as goal
-
-pub loop-i-init : goal.loop-i-init
-loop-i-init c = (omega arith, nodes_start c.requires)
 
 pub backward_byte-byte-requires : goal.backward_byte-byte-requires
 backward_byte-byte-requires c =

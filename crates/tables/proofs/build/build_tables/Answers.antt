@@ -1,22 +1,12 @@
 -- `build_tables` refuses as `build_verdict` does, and then changes nothing. Else the network is accepted and the tables are long enough,
 -- so that each table is filled as its own functions promise: the backwarding table first as if no interface had key links, then without
 -- them.
-use mathlib.Core.Path.{refl}
 use lib.ListN.{length}
 use Rattle.net.specs.Rows.{Rows}
 use Rattle.net.specs.Check.{Accepted}
 use Rattle.tables.specs.Lent.{LentTables, LongEnough}
-use Rattle.tables.proofs.Filling.{filled_again}
 use Rattle.tables.proofs.BuildVerdicts.{build_accepted, build_room}
 use Rattle.tables.proofs.build.build_tables.Goals as goal
-
-pub returns-then-verdict-ne-NONE : goal.returns-then-verdict-ne-NONE
-returns-then-verdict-ne-NONE c =
-    record {
-      verdict = c.build_verdict-verdict.ensures;
-      refused = λ refusal. refl;
-      built = λ free. absurd (c.if-verdict-ne-NONE.true free);
-    }
 
 pub square_of-all-requires : goal.square_of-all-requires
 square_of-all-requires c =
@@ -68,16 +58,4 @@ fill_forwarding-requires c =
     record {
       filling = record { network = network; room = (room).for_forwarding; square = c.square_of-all.ensures };
       keeps = c.fill_without_own-kept.ensures.square_kept;
-    }
-
-pub returns : goal.returns
-returns c =
-    record {
-      verdict = c.build_verdict-verdict.ensures;
-      refused = λ refusal. absurd (refusal c.if-verdict-ne-NONE.false);
-      built = λ free. record {
-        routes = c.fill_routing.ensures;
-        forwards = c.fill_forwarding.ensures;
-        backwards = filled_again c.fill_without_own-kept.ensures.filled c.leave_out_keys.ensures;
-      };
     }

@@ -1,7 +1,7 @@
 use Prim.Native.Nat.{◌+◌, ◌*◌, ◌≤◌, ◌<◌}
 use mathlib.Core.Path.{◌≡◌, refl, sym, ap₂, ◌∙◌}
 use native.Mathlib.Omega.{arith}
-use lib.ListN.{length, length-take, length-drop}
+use lib.ListN.{length}
 use Rattle.graph.specs.Network.{link, head}
 use Rattle.graph.proofs.Interfaces.{head_node}
 use Rattle.net.specs.Rows.{Rows, Present, network_of}
@@ -9,33 +9,9 @@ use Rattle.net.proofs.Accepted.{well_formed}
 use Rattle.net.proofs.Rows.{interface_present, head_of_lem}
 use Rattle.paths.specs.inner.Square.{column_for}
 use Rattle.tables.specs.inner.Detours.{forward_cost, kept_for}
-use Rattle.tables.proofs.Filling.{filled_start}
 use Rattle.tables.proofs.RowBytes.{forwarding_row}
 use Rattle.tables.proofs.Building.{row_room, filled_row}
 use Rattle.tables.proofs.build.fill_forwarding.Goals as goal
-
-pub by_node-rows-requires : goal.by_node-rows-requires
-by_node-rows-requires c = c.requires.filling.network.few_nodes
-
-pub kept_by_node-turned-requires : goal.kept_by_node-turned-requires
-kept_by_node-turned-requires c = c.requires.filling.network.few_nodes
-
-pub loop-h-init : goal.loop-h-init
-loop-h-init c = (refl, omega arith, filled_start _)
-
-pub overflow_mul-from : goal.overflow_mul-from
-overflow_mul-from c =
-    let room : let args = c.args in
-    c.loop-h.h * args.n + args.n ≤ length args.table.now = let args = c.args in
-    row_room {rows = 2 * length args.low.now} args.n c.loop-h.h (omega arith) c.requires.filling.room in
-    let end = room in omega arith
-
-pub overflow_add-to : goal.overflow_add-to
-overflow_add-to c =
-    let room : let args = c.args in
-    c.loop-h.h * args.n + args.n ≤ length args.table.now = let args = c.args in
-    row_room {rows = 2 * length args.low.now} args.n c.loop-h.h (omega arith) c.requires.filling.room in
-    let end = room in omega arith
 
 pub offset_bounds-rows-i : goal.offset_bounds-rows-i
 offset_bounds-rows-i c =
@@ -80,14 +56,6 @@ slice_bounds-fill_row-end c =
     row_room {rows = 2 * length args.low.now} args.n c.loop-h.h (omega arith) c.requires.filling.room in
     let end = room in omega arith
 
-pub fill_row-requires : goal.fill_row-requires
-fill_row-requires c =
-    let room : let args = c.args in
-    c.loop-h.h * args.n + args.n ≤ length args.table.now = let args = c.args in
-    row_room {rows = 2 * length args.low.now} args.n c.loop-h.h (omega arith) c.requires.filling.room in
-    let end = room in
-    record { few_nodes = omega arith; width = simp (length-take, length-drop) (omega arith) }
-
 pub loop-h-preserved : goal.loop-h-preserved
 unfolding column_for kept_for
 loop-h-preserved c =
@@ -113,8 +81,3 @@ loop-h-preserved c =
           (c.kept_by_node-turned.ensures i d (node) destination)))
           c.fill_row.ensures,
     )
-
-pub returns : goal.returns
-returns c =
-    let done : c.loop-h.h ≡ 2 * length c.args.low.now = omega arith in
-    rw done at c.loop-h.invariant.2

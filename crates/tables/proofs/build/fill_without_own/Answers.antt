@@ -2,9 +2,8 @@ use Prim.Native.Nat.{◌+◌, ◌*◌, ◌≤◌, ◌<◌}
 use mathlib.Core.Path.{◌≡◌, refl, ap, ◌∙◌}
 use native.Mathlib.Numerals.{add-one}
 use native.Mathlib.Omega.{arith}
-use lib.ListN.{length, get_or, length-take, length-drop}
+use lib.ListN.{length}
 use Rattle.graph.specs.Path.{But}
-use Rattle.net.specs.Check.{Joins}
 use Rattle.net.specs.Rows.{network_of}
 use Rattle.net.specs.inner.LinkSet.{with_link}
 use Rattle.net.proofs.Accepted.{well_formed}
@@ -20,97 +19,6 @@ use Rattle.tables.proofs.build.fill_without_own.Goals as goal
 pub loop-k-init : goal.loop-k-init
 loop-k-init c =
     (refl, omega arith, filled_start _, rw c.none_kept-kept.ensures (kept_start _ c.requires.network.few_nodes c.args.all))
-
-pub with_link-only-requires : goal.with_link-only-requires
-with_link-only-requires c =
-    let number : c.loop-k.k < length c.args.low.now = omega arith in
-    omega (arith, number, c.requires.network.few_links)
-
-pub square_without-without-requires : goal.square_without-without-requires
-square_without-without-requires c = c.requires.network
-
-pub overflow_mul-first-in-loop-k : goal.overflow_mul-first-in-loop-k
-overflow_mul-first-in-loop-k c =
-    let room : let args = c.args in
-    2 * c.loop-k.k * args.n + args.n + args.n ≤ length args.table.now = let args = c.args in
-    let k = c.loop-k.k in
-    rw (next_row (2 * k) args.n)
-    (row_room {rows = 2 * length args.low.now} args.n (2 * k + 1) (omega arith) c.requires.room) in
-    let end = room in omega arith
-
-pub overflow_add-second : goal.overflow_add-second
-overflow_add-second c =
-    let room : let args = c.args in
-    2 * c.loop-k.k * args.n + args.n + args.n ≤ length args.table.now = let args = c.args in
-    let k = c.loop-k.k in
-    rw (next_row (2 * k) args.n)
-    (row_room {rows = 2 * length args.low.now} args.n (2 * k + 1) (omega arith) c.requires.room) in
-    let end = room in omega arith
-
-pub overflow_add-third : goal.overflow_add-third
-overflow_add-third c =
-    let room : let args = c.args in
-    2 * c.loop-k.k * args.n + args.n + args.n ≤ length args.table.now = let args = c.args in
-    let k = c.loop-k.k in
-    rw (next_row (2 * k) args.n)
-    (row_room {rows = 2 * length args.low.now} args.n (2 * k + 1) (omega arith) c.requires.room) in
-    let end = room in omega arith
-
-pub costs_of-from_low-requires : goal.costs_of-from_low-requires
-costs_of-from_low-requires c =
-    let number : c.loop-k.k < length c.args.low.now = omega arith in
-    let joins : let args = c.args in
-    Joins args.n (get_or args.low.now c.loop-k.k 0) (get_or args.high.now c.loop-k.k 0)
-    (get_or args.weight.now c.loop-k.k 0) = c.requires.network.joins c.loop-k.k (number) in
-    let link = joins in
-    record { few_nodes = c.requires.network.few_nodes; node = omega arith }
-
-pub costs_of-from_high-requires : goal.costs_of-from_high-requires
-costs_of-from_high-requires c =
-    let number : c.loop-k.k < length c.args.low.now = omega arith in
-    let joins : let args = c.args in
-    Joins args.n (get_or args.low.now c.loop-k.k 0) (get_or args.high.now c.loop-k.k 0)
-    (get_or args.weight.now c.loop-k.k 0) = c.requires.network.joins c.loop-k.k (number) in
-    let link = joins in
-    record { few_nodes = c.requires.network.few_nodes; node = omega arith }
-
-pub slice_bounds-fill_row-end : goal.slice_bounds-fill_row-end
-slice_bounds-fill_row-end c =
-    let room : let args = c.args in
-    2 * c.loop-k.k * args.n + args.n + args.n ≤ length args.table.now = let args = c.args in
-    let k = c.loop-k.k in
-    rw (next_row (2 * k) args.n)
-    (row_room {rows = 2 * length args.low.now} args.n (2 * k + 1) (omega arith) c.requires.room) in
-    let end = room in omega arith
-
-pub fill_row-requires : goal.fill_row-requires
-fill_row-requires c =
-    let room : let args = c.args in
-    2 * c.loop-k.k * args.n + args.n + args.n ≤ length args.table.now = let args = c.args in
-    let k = c.loop-k.k in
-    rw (next_row (2 * k) args.n)
-    (row_room {rows = 2 * length args.low.now} args.n (2 * k + 1) (omega arith) c.requires.room) in
-    let end = room in
-    record { few_nodes = c.requires.network.few_nodes; width = simp (length-take, length-drop) (omega arith) }
-
-pub slice_bounds-fill_row-end-in-loop-k : goal.slice_bounds-fill_row-end-in-loop-k
-slice_bounds-fill_row-end-in-loop-k c =
-    let room : let args = c.args in
-    2 * c.loop-k.k * args.n + args.n + args.n ≤ length args.table.now = let args = c.args in
-    let k = c.loop-k.k in
-    rw (next_row (2 * k) args.n)
-    (row_room {rows = 2 * length args.low.now} args.n (2 * k + 1) (omega arith) c.requires.room) in
-    let end = room in omega arith
-
-pub fill_row-requires-in-loop-k : goal.fill_row-requires-in-loop-k
-fill_row-requires-in-loop-k c =
-    let room : let args = c.args in
-    2 * c.loop-k.k * args.n + args.n + args.n ≤ length args.table.now = let args = c.args in
-    let k = c.loop-k.k in
-    rw (next_row (2 * k) args.n)
-    (row_room {rows = 2 * length args.low.now} args.n (2 * k + 1) (omega arith) c.requires.room) in
-    let end = room in
-    record { few_nodes = c.requires.network.few_nodes; width = simp (length-take, length-drop) (omega arith) }
 
 pub note_link-next-requires : goal.note_link-next-requires
 note_link-next-requires c =
@@ -128,14 +36,6 @@ note_link-next-requires c =
       square_without = without_best;
       keeps = c.loop-k.invariant.3;
     }
-
-pub overflow_add-k : goal.overflow_add-k
-overflow_add-k c =
-    omega (arith, c.requires.network.few_links, c.loop-k.invariant.0, c.loop-k-test.true)
-
-pub loop-k-smaller : goal.loop-k-smaller
-loop-k-smaller c =
-    omega (arith, c.loop-k-test.true)
 
 pub loop-k-preserved : goal.loop-k-preserved
 loop-k-preserved c =
@@ -164,8 +64,3 @@ loop-k-preserved c =
     c.fill_row-in-loop-k.ensures in
     let rows : 2 * (at.k + 1) ≡ 2 * at.k + 1 + 1 = omega arith in
     (at.invariant.0, omega arith, rw rows second, rw add-one c.note_link-next.ensures)
-
-pub returns : goal.returns
-returns c =
-    let done : c.loop-k.k ≡ length c.args.low.now = omega arith in
-    record { filled = rw done at c.loop-k.invariant.2; square_kept = rw done at c.loop-k.invariant.3 }

@@ -5,16 +5,6 @@ use Rattle.tables.specs.Key.{key_links_verdict}
 use Rattle.tables.proofs.KeyVerdicts.{accepted_asked, accepted_verdict}
 use Rattle.tables.proofs.key.key_links.Goals as goal
 
-pub returns-then-verdict-ne-NONE : goal.returns-then-verdict-ne-NONE
-returns-then-verdict-ne-NONE c =
-    let answered = c.key_links_verdict-verdict.ensures in
-    record {
-      number = ap (λ v. v.number) answered;
-      place = ap (λ v. v.place) answered;
-      refused = λ n. refl;
-      keys = λ e. absurd (c.if-verdict-ne-NONE.true e);
-    }
-
 pub keys_of-keys-requires : goal.keys_of-keys-requires
 keys_of-keys-requires c =
     let passed : let args = c.args in
