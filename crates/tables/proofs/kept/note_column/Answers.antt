@@ -1,24 +1,17 @@
-use Prim.Native.Nat.{◌<◌}
 use mathlib.Core.Path.{sym, ◌∙◌}
 use native.Mathlib.Omega.{arith}
-use Rattle.net.specs.Limits.{most_nodes}
-use Rattle.tables.proofs.Noting.{noted_uncrossed, noted_crossed, ahead_node}
+use Rattle.tables.proofs.Noting.{noted_uncrossed, noted_crossed, ahead_place}
 use Rattle.tables.proofs.kept.note_column.Goals.{then-crosses_link, else-crosses_link}
 use Rattle.tables.proofs.kept.note_column.Goals as goal
 
 pub offset_bounds-without-j : goal.offset_bounds-without-j
 offset_bounds-without-j c =
-    let ahead-place : c.head_of-j.result.0 < most_nodes = let crosses = sym c.crosses_link.ensures ∙ c.if-crosses_link.true in
-    let node = ahead_node c.requires c.well_formed.1.0.1.0.1 c.loop-i.i c.loop-i-test.true _ crosses in
-    omega (arith, c.head_of-j.ensures, node, c.requires.network.few_nodes) in
-    omega (arith, ahead-place)
+    let place = ahead_place c.requires c.well_formed.1.0.1.0.1 c.loop-i.i c.loop-i-test.true _ (sym c.crosses_link.ensures ∙ c.if-crosses_link.true) c.head_of-j.ensures in
+    omega (arith, place)
 
 pub bounds-without-j : goal.bounds-without-j
 bounds-without-j c =
-    let ahead-place : c.head_of-j.result.0 < most_nodes = let crosses = sym c.crosses_link.ensures ∙ c.if-crosses_link.true in
-    let node = ahead_node c.requires c.well_formed.1.0.1.0.1 c.loop-i.i c.loop-i-test.true _ crosses in
-    omega (arith, c.head_of-j.ensures, node, c.requires.network.few_nodes) in
-    ahead-place
+    ahead_place c.requires c.well_formed.1.0.1.0.1 c.loop-i.i c.loop-i-test.true _ (sym c.crosses_link.ensures ∙ c.if-crosses_link.true) c.head_of-j.ensures
 
 pub loop-i-preserved : goal.loop-i-preserved
 loop-i-preserved c =

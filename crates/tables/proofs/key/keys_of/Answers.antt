@@ -4,10 +4,8 @@ use mathlib.Core.Path.{refl, sym, ap, ◌∙◌}
 use native.Mathlib.Numerals.{add-one}
 use native.Mathlib.Omega.{arith}
 use lib.ListN.{length}
-use Rattle.net.specs.Limits.{most_nodes}
 use Rattle.net.specs.inner.LinkSet.{with_link}
-use Rattle.tables.proofs.KeyLoop.{head_below, tail_below, no_keys_here}
-use Rattle.tables.proofs.KeyLoop.{keys_begin, keys_with, keys_without, key_read}
+use Rattle.tables.proofs.KeyLoop.{no_keys_here, keys_begin, keys_with, keys_without, key_read, head_place, tail_place}
 use Rattle.tables.proofs.key.keys_of.Goals.{then-is_key, else-is_key}
 use Rattle.tables.proofs.key.keys_of.Goals as goal
 
@@ -16,43 +14,25 @@ returns-then-i-d c =
     rw c.empty.ensures (no_keys_here c.requires (sym c.head_of-i.ensures ∙ c.if-i-d.true))
 
 pub offset_bounds-all-i : goal.offset_bounds-all-i
-offset_bounds-all-i c =
-    let head-place : c.head_of-i.result.0 < most_nodes = let asked = c.requires in
-    omega (arith, asked.network.few_nodes, head_below asked, c.head_of-i.ensures) in
-    omega (arith, head-place)
+offset_bounds-all-i c = omega (arith, head_place c.requires c.head_of-i.ensures)
 
 pub bounds-all-i : goal.bounds-all-i
-bounds-all-i c =
-    let head-place : c.head_of-i.result.0 < most_nodes = let asked = c.requires in
-    omega (arith, asked.network.few_nodes, head_below asked, c.head_of-i.ensures) in
-    head-place
+bounds-all-i c = head_place c.requires c.head_of-i.ensures
 
 pub loop-k-init : goal.loop-k-init
 loop-k-init c = (refl, omega arith, rw c.empty-keys.ensures keys_begin)
 
 pub offset_bounds-without-i : goal.offset_bounds-without-i
-offset_bounds-without-i c =
-    let head-place : c.head_of-i.result.0 < most_nodes = let asked = c.requires in
-    omega (arith, asked.network.few_nodes, head_below asked, c.head_of-i.ensures) in
-    omega (arith, head-place)
+offset_bounds-without-i c = omega (arith, head_place c.requires c.head_of-i.ensures)
 
 pub bounds-without-i : goal.bounds-without-i
-bounds-without-i c =
-    let head-place : c.head_of-i.result.0 < most_nodes = let asked = c.requires in
-    omega (arith, asked.network.few_nodes, head_below asked, c.head_of-i.ensures) in
-    head-place
+bounds-without-i c = head_place c.requires c.head_of-i.ensures
 
 pub offset_bounds-without-j : goal.offset_bounds-without-j
-offset_bounds-without-j c =
-    let tail-place : c.tail_of-j.result.0 < most_nodes = let asked = c.requires in
-    omega (arith, asked.network.few_nodes, tail_below asked, c.tail_of-j.ensures) in
-    omega (arith, tail-place)
+offset_bounds-without-j c = omega (arith, tail_place c.requires c.tail_of-j.ensures)
 
 pub bounds-without-j : goal.bounds-without-j
-bounds-without-j c =
-    let tail-place : c.tail_of-j.result.0 < most_nodes = let asked = c.requires in
-    omega (arith, asked.network.few_nodes, tail_below asked, c.tail_of-j.ensures) in
-    tail-place
+bounds-without-j c = tail_place c.requires c.tail_of-j.ensures
 
 pub loop-k-preserved : goal.loop-k-preserved
 loop-k-preserved c =
