@@ -17,12 +17,13 @@ use Rattle.tables.specs.inner.Given.{Filling}
 use Rattle.tables.proofs.BuildVerdicts.{build_accepted, build_room}
 use Rattle.tables.proofs.build.build_tables.Goals as goal
 
--- what each table is filled by, once the checks have passed
 module _ (R : Rows) (T : LentTables) {v : Verdict} (is : v ≡ build_verdict R T) (free : v.number ≡ accepted)
     {all : List (List Cost)} (square : BestSquare (network_of R) All all) where
+  -- once the checks have passed: what a table with enough room is filled by
   with_room : (rows : ℕ) (table : List ℕ) → rows * R.nodes ≤ length table → Filling R rows table all
   with_room rows table room = record { network = build_accepted R T is free; room = room; square = square }
 
+  -- and that each of the three has enough
   for_routing : Filling R R.nodes T.routing all
   for_routing = with_room R.nodes T.routing (build_room R T is free).for_routing
 

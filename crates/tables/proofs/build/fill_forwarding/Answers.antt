@@ -22,22 +22,24 @@ module _ {R : Rows} {table : List ℕ} {all : List (List Cost)} {kept : List (Li
     (h : ℕ) (interface : h < 2 * length R.low) where
   open R use {nodes as n, low, high}
 
-  -- the interface's row ends within the table
+  -- the row of interface h ends within the table
   row_end : h * n + n ≤ length table
   row_end = row_room n h interface G.filling.room
 
+  -- its link is there
   present : Present R (link h)
   present = interface_present R h interface
 
   module _ {i : ℕ} (is : i ≡ head_of low high h) where
-    -- it enters node i
+    -- the head of interface h is the node that the code names i
     enters : head (network_of R) h ≡ i
     enters = head_of_lem R h ∙ sym is
 
+    -- a node of the network
     entered : i < n
     entered = rw enters at (head_node (network_of R) (well_formed R G.filling.network) h present)
 
-    -- whose row is one of the square's
+    -- and one of the square's rows
     entered_place : i < most_nodes
     entered_place = omega (arith, entered, G.filling.network.few_nodes)
 

@@ -10,15 +10,13 @@ use Rattle.tables.proofs.build.fill_routing.Goals as goal
 pub loop-i-preserved : goal.loop-i-preserved
 unfolding column_for
 loop-i-preserved c =
-    let room : let args = c.args in
-    c.loop-i.i * args.n + args.n ≤ length args.table.now = row_room {rows = c.args.n} {room = length c.args.table.now} c.args.n c.loop-i.i c.loop-i-test.true
-    c.requires.room in
     let at = c.loop-i in
+    let n = c.args.n in
+    let room : at.i * n + n ≤ length c.args.table.now = row_room {rows = n} n at.i c.loop-i-test.true c.requires.room in
     let rows = c.by_node-rows in
     let costs = column_for rows.result at.i in (
       omega arith,
-      filled_row at.invariant.1 refl (room)
-          at.i costs
+      filled_row at.invariant.1 refl room at.i costs
           (routing_row _ c.requires.network at.i costs c.args.all c.requires.square (omega arith)
           (λ d. rows.ensures at.i d (omega arith)))
           c.fill_row.ensures,

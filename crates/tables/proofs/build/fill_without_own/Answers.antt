@@ -20,8 +20,8 @@ use Rattle.tables.proofs.Building.{next_row, row_room, filled_row}
 use Rattle.tables.proofs.build.fill_without_own.Goals as goal
 
 -- The square that the code restarts with one link out is the one without that link.
-without_best : {R : Rows} → Accepted R → {k : ℕ} {none out : LinkSet} (without : List (List Cost)) → none ≡ no_links → out ≡ with_link none k
-    → BestSquare (network_of R) (Without out) without → BestSquare (network_of R) (But k) without
+without_best : {R : Rows} → Accepted R → {k : ℕ} {none out : LinkSet} (without : List (List Cost)) → none ≡ no_links
+    → out ≡ with_link none k → BestSquare (network_of R) (Without out) without → BestSquare (network_of R) (But k) without
 without_best {R} network without is_empty is_only best d destination =
     column_but (network_of R) (well_formed R network) (rw (is_only, is_empty) at (best d destination))
 

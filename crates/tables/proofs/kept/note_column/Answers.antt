@@ -6,25 +6,26 @@ use Rattle.tables.proofs.kept.note_column.Goals as goal
 
 pub offset_bounds-without-j : goal.offset_bounds-without-j
 offset_bounds-without-j c =
-    let place = ahead_place c.requires c.well_formed.1.0.1.0.1 c.loop-i.i c.loop-i-test.true _ (sym c.crosses_link.ensures ∙ c.if-crosses_link.true) c.head_of-j.ensures in
+    let place = ahead_place c.requires (omega arith) _ c.loop-i-test.true _ (sym c.crosses_link.ensures ∙ c.if-crosses_link.true)
+    c.head_of-j.ensures in
     omega (arith, place)
 
 pub bounds-without-j : goal.bounds-without-j
 bounds-without-j c =
-    ahead_place c.requires c.well_formed.1.0.1.0.1 c.loop-i.i c.loop-i-test.true _ (sym c.crosses_link.ensures ∙ c.if-crosses_link.true) c.head_of-j.ensures
+    ahead_place c.requires (omega arith) _ c.loop-i-test.true _ (sym c.crosses_link.ensures ∙ c.if-crosses_link.true) c.head_of-j.ensures
 
 pub loop-i-preserved : goal.loop-i-preserved
 loop-i-preserved c =
     let at = c.loop-i in
-    let node = c.loop-i-test.true in
     let test = sym c.crosses_link.ensures in (
       omega arith,
       elim c.if-crosses_link.branch [
         | then-crosses_link w ↦
             rw w.next-is
-            (noted_crossed c.requires c.well_formed.1.0.1.0.1 at.i node _ (test ∙ w.if-crosses_link.true) at.invariant.1
-            c.well_formed.1.1.0.1.0.1 _ w.head_of-j.ensures c.end_at.ensures c.end_at-2.ensures w.noted.ensures)
+            (noted_crossed c.requires (omega arith) at.i c.loop-i-test.true _ (test ∙ w.if-crosses_link.true) at.invariant.1
+            (omega arith) _ w.head_of-j.ensures c.end_at.ensures c.end_at-2.ensures w.noted.ensures)
         | else-crosses_link w ↦
-            rw w.next-is (noted_uncrossed c.requires c.well_formed.1.0.1.0.1 at.i node _ at.invariant.1 (test ∙ w.if-crosses_link.false))
+            rw w.next-is
+            (noted_uncrossed c.requires (omega arith) at.i c.loop-i-test.true _ at.invariant.1 (test ∙ w.if-crosses_link.false))
       ],
     )

@@ -31,12 +31,7 @@ returns-then-not-known c = simp (← c.known.ensures, c.if-not-known.true)
 pub returns-then-whole-reverse_of : goal.returns-then-whole-reverse_of
 unfolding key_test
 returns-then-whole-reverse_of c =
-    simp (
-      ← c.known.ensures,
-      c.if-not-known.false,
-      ← c.reverse_of.ensures,
-      ne_eqb _ _ c.if-whole-reverse_of.true,
-    )
+    simp (← c.known.ensures, c.if-not-known.false, ← c.reverse_of.ensures, ne_eqb _ _ c.if-whole-reverse_of.true)
 
 pub returns-then-not-comes_before : goal.returns-then-not-comes_before
 returns-then-not-comes_before c =
