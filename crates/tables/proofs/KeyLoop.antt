@@ -61,10 +61,11 @@ module _ {R : Rows} {h d : ℕ} (G : Asked R h d) where
   pub tail_below : tail_of low high h < n
   tail_below = rw (tail_of_lem R h) at (tail_node N W h present)
 
-  -- both are places of a column
+  -- the head is a place of a column
   pub head_place : {i : ℕ} → i ≡ head_of low high h → i < most_nodes
   head_place is = omega (arith, is, head_below, G.network.few_nodes)
 
+  -- and so is the tail
   pub tail_place : {j : ℕ} → j ≡ tail_of low high h → j < most_nodes
   tail_place is = omega (arith, is, tail_below, G.network.few_nodes)
 

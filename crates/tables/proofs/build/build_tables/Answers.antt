@@ -19,17 +19,19 @@ use Rattle.tables.proofs.build.build_tables.Goals as goal
 
 module _ (R : Rows) (T : LentTables) {v : Verdict} (is : v ≡ build_verdict R T) (free : v.number ≡ accepted)
     {all : List (List Cost)} (square : BestSquare (network_of R) All all) where
-  -- once the checks have passed: what a table with enough room is filled by
+  -- a table with enough room can be filled once the checks have passed
   with_room : (rows : ℕ) (table : List ℕ) → rows * R.nodes ≤ length table → Filling R rows table all
   with_room rows table room = record { network = build_accepted R T is free; room = room; square = square }
 
-  -- and that each of the three has enough
+  -- the routing table has enough for a row of each node
   for_routing : Filling R R.nodes T.routing all
   for_routing = with_room R.nodes T.routing (build_room R T is free).for_routing
 
+  -- the forwarding table for one of each interface
   for_forwarding : Filling R (2 * length R.low) T.forwarding all
   for_forwarding = with_room (2 * length R.low) T.forwarding (build_room R T is free).for_forwarding
 
+  -- and so has the backwarding table
   for_backwarding : Filling R (2 * length R.low) T.backwarding all
   for_backwarding = with_room (2 * length R.low) T.backwarding (build_room R T is free).for_backwarding
 

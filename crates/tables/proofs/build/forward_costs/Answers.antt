@@ -17,6 +17,5 @@ loop-d-preserved c =
       below_more _ _
           (λ e h. get_or-set_other at.costs at.d e _ no_cost (λ q. omega arith) ∙ at.invariant.2 e h)
           (get_or-set_same at.costs at.d _ no_cost (omega arith)
-          ∙ forward_read _ at.d c.args.all c.args.kept (omega arith)
-          (omega arith) _ _ c.forward_cost.ensures),
+          ∙ forward_read _ at.d c.args.all c.args.kept (omega arith) (omega arith) _ _ c.forward_cost.ensures),
     )

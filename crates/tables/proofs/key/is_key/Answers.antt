@@ -9,16 +9,18 @@ use Rattle.paths.specs.declared.cost.Cost.{Cost}
 use Rattle.tables.specs.inner.KeyTest.{key_test, crosses_link}
 use Rattle.tables.proofs.key.is_key.Goals as goal
 
--- the answer where the path goes straight back: without the link the cost does not fall, or it does and one end's path decides
 module _ (h : ℕ) (whole after ahead one other : Cost) (sure : is_known whole ≡ true) (back : whole.first ≡ reverse h) where
+  -- the path goes straight back, but without the link the cost does not fall
   no_fall : before after ahead ≡ false → key_test h whole after ahead one other ≡ false
   unfolding key_test
   no_fall rises = simp (sure, eq-eqb _ _ back, rises)
 
+  -- it falls, and the path of the one end crosses the link of h
   one_crosses : before after ahead ≡ true → crosses_link one (link h) ≡ true → key_test h whole after ahead one other ≡ true
   unfolding key_test
   one_crosses falls crosses = simp (sure, eq-eqb _ _ back, falls, crosses)
 
+  -- that of the one end does not, so that the other end decides
   other_left : before after ahead ≡ true → crosses_link one (link h) ≡ false
       → key_test h whole after ahead one other ≡ crosses_link other (link h)
   unfolding key_test
