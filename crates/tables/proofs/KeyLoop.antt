@@ -5,6 +5,7 @@ use mathlib.Core.Bool.{true}
 use mathlib.Core.Path.{◌≡◌, ◌∙◌}
 use mathlib.Core.Logic.{◌≢◌, ◌↔◌}
 use mathlib.Core.List.{List}
+use native.Mathlib.Omega.{arith}
 use lib.ListN.{length, get_or}
 use Rattle.graph.specs.Network.{Network, WellFormed, link}
 use Rattle.graph.specs.Path.{All}
@@ -59,6 +60,14 @@ module _ {R : Rows} {h d : ℕ} (G : Asked R h d) where
 
   pub tail_below : tail_of low high h < n
   tail_below = rw (tail_of_lem R h) at (tail_node N W h present)
+
+  -- the head is a place of a column
+  pub head_place : {i : ℕ} → i ≡ head_of low high h → i < most_nodes
+  head_place is = omega (arith, is, head_below, G.network.few_nodes)
+
+  -- and so is the tail
+  pub tail_place : {j : ℕ} → j ≡ tail_of low high h → j < most_nodes
+  tail_place is = omega (arith, is, tail_below, G.network.few_nodes)
 
   pub no_keys_here : head_of low high h ≡ d → SetOf (length low) (KeyLink N d h) (value no_links)
   no_keys_here e = rw value_none (set_empty (λ k key. key_not_at_destination N W (head_of_lem R h ∙ e) key))

@@ -11,10 +11,15 @@ use Rattle.graph.specs.Network.{link}
 use Rattle.net.specs.Refusals.{accepted, interface_number, node_number}
 use Rattle.net.specs.Check.{verdict, check_network, refused_if}
 use Rattle.net.specs.Rows.{Rows}
+use Rattle.net.specs.declared.check.Verdict.{Verdict}
 use Rattle.net.proofs.Accepted.{accepts_check, check_accepts}
 use Rattle.net.proofs.Verdicts.{or_else_first, or_else_second, first_accepted, second_accepted, is_refused, not_refused, passed_test}
 use Rattle.tables.specs.Key.{key_links_verdict}
 use Rattle.tables.specs.inner.Given.{Asked}
+
+-- a verdict that the code finds to refuse nothing, as the definition's
+pub none_refused : {found said : Verdict} → found ≡ said → found.number ≡ accepted → said.number ≡ accepted
+none_refused is free = rw is at free
 
 module _ (R : Rows) (h d : ℕ) where
   open R use {nodes as n, low}

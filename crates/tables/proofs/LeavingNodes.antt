@@ -164,6 +164,10 @@ module _ {R : Rows} {d : ℕ} {before : List ℕ} {all : List Cost} {kept : List
           are = rw (kept_is, returns) (set_whole ((G.keeps i node).keys away known));
         }
 
+        -- its row ends within the table
+        pub back_room : h * n + n ≤ length before
+        back_room = row_room n h an_interface G.room
+
         -- its byte is stored; another interface that enters the node has no key links
         pub node_with_keys : {byte : ℕ} → BackwardingByte N h d byte → NodesPassed R d (i + 1) before (set table (h * n + d) byte)
         node_with_keys {byte} right =
@@ -177,7 +181,7 @@ module _ {R : Rows} {d : ℕ} {before : List ℕ} {all : List Cost} {kept : List
             (λ at elsewhere. get_or-set_other table (h * n + d) at byte 0 (elsewhere h an_interface enters_node))
           where
             place : h * n + d < length table
-            place = omega (arith, P.same_length, row_room n h an_interface G.room, G.destination)
+            place = omega (arith, P.same_length, back_room, G.destination)
 
             routed_back : (g : ℕ) → head N g ≡ i → {k : ℕ} → KeyLink N d g k → g ≡ h
             routed_back g enters key =

@@ -100,6 +100,10 @@ module _ {R : Rows} {d k : ℕ} {all without : List Cost} {kept : List Kept} (G 
           let f = (entry_at all i).first in
           rw (whole_is, ← head_of_lem R f) (head_node N W f (first_present N m.best.chain))
 
+      -- whose cost the column holds
+      pub ahead_place : {j : ℕ} → j ≡ head_of low high (get_or all i past).first → j < most_nodes
+      ahead_place is = omega (arith, is, ahead_node, G.network.few_nodes)
+
       -- what is kept of i, the costs of i, of the node after it and of the link's two ends
       pub noted_crossed : {next : List Kept} → NotedBelow N d k all kept i next → length without ≡ most_nodes → (past_kept : Kept)
           → {j x y : ℕ} → j ≡ head_of low high (get_or all i past).first → x ≡ get_or low k 0 → y ≡ get_or high k 0

@@ -1,12 +1,10 @@
 -- `backward_byte` takes out the set of the key links with the interface's own link, and reads the entry of the tail, which is a node.
 use mathlib.Core.Path.{ap, ◌∙◌}
-use Prim.Native.Nat.{◌<◌}
 use native.Mathlib.Omega.{arith}
 use Rattle.graph.specs.Network.{link}
-use Rattle.net.specs.Limits.{most_nodes}
 use Rattle.net.specs.inner.LinkSet.{with_link}
-use Rattle.tables.proofs.KeyLoop.{tail_below}
 use Rattle.tables.proofs.Leaving.{aside_byte}
+use Rattle.tables.proofs.KeyLoop.{tail_place}
 use Rattle.tables.proofs.backward.backward_byte.Goals as goal
 
 pub with_link-out-requires : goal.with_link-out-requires
@@ -16,16 +14,10 @@ with_link-out-requires c =
     omega (arith, asked.interface, asked.network.few_links, c.link_of.ensures)
 
 pub offset_bounds-without-j : goal.offset_bounds-without-j
-offset_bounds-without-j c =
-    let tail-place : c.tail_of-j.result.0 < most_nodes = let asked = c.requires.asked in
-    omega (arith, asked.network.few_nodes, tail_below asked, c.tail_of-j.ensures) in
-    omega (arith, tail-place)
+offset_bounds-without-j c = omega (arith, tail_place c.requires.asked c.tail_of-j.ensures)
 
 pub bounds-without-j : goal.bounds-without-j
-bounds-without-j c =
-    let tail-place : c.tail_of-j.result.0 < most_nodes = let asked = c.requires.asked in
-    omega (arith, asked.network.few_nodes, tail_below asked, c.tail_of-j.ensures) in
-    tail-place
+bounds-without-j c = tail_place c.requires.asked c.tail_of-j.ensures
 
 pub returns : goal.returns
 returns c =

@@ -1,48 +1,37 @@
-use Prim.Native.Nat.{◌+◌, ◌*◌, ◌≤◌}
 use mathlib.Core.Path.{sym, ◌∙◌}
 use native.Mathlib.Omega.{arith}
-use lib.ListN.{length}
-use Rattle.tables.proofs.Building.{row_room}
-use Rattle.tables.proofs.LeavingNodes.{nodes_start, nodes_done, node_without_keys, node_with_keys, back_keys}
+use Rattle.tables.proofs.LeavingNodes.{nodes_done, node_without_keys, node_with_keys, back_keys, back_room}
 use Rattle.tables.proofs.backward.leave_out.Goals.{then-not-is_empty, else-not-is_empty}
 use Rattle.tables.proofs.backward.leave_out.Goals as goal
 
-pub loop-i-init : goal.loop-i-init
-loop-i-init c = (omega arith, nodes_start c.requires)
-
 pub backward_byte-byte-requires : goal.backward_byte-byte-requires
 backward_byte-byte-requires c =
-    let some = sym c.is_empty.ensures ∙ c.if-not-is_empty.true in
-    let at = c.loop-i in
-    back_keys c.requires at.i c.loop-i-test.true at.invariant.1 c.well_formed.1.1.1.1.1.1.0.1.0.1 _ some
-    c.well_formed.1.1.1.1.1.0.1.0.1 _ c.reverse_of-h.ensures
+    back_keys c.requires _ c.loop-i-test.true c.loop-i.invariant.1 (omega arith) _ (sym c.is_empty.ensures ∙ c.if-not-is_empty.true)
+    (omega arith) _ c.reverse_of-h.ensures
 
 pub overflow_mul-table : goal.overflow_mul-table
 overflow_mul-table c =
-    let room : let args = c.args in
-    c.reverse_of-h.result.0 * args.n + args.n ≤ length args.table.now = let some = sym c.is_empty.ensures ∙ c.if-not-is_empty.true in
-    let known = back_keys c.requires c.loop-i.i c.loop-i-test.true c.loop-i.invariant.1 c.well_formed.1.1.1.1.1.1.0.1.0.1 _ some
-    c.well_formed.1.1.1.1.1.0.1.0.1 _ c.reverse_of-h.ensures in
-    row_room c.args.n c.reverse_of-h.result.0 known.asked.interface c.requires.room in
-    let end = room in omega arith
+    omega (
+      arith,
+      back_room c.requires _ c.loop-i-test.true c.loop-i.invariant.1 (omega arith) _
+          (sym c.is_empty.ensures ∙ c.if-not-is_empty.true) (omega arith) _ c.reverse_of-h.ensures,
+    )
 
 pub overflow_add-table : goal.overflow_add-table
 overflow_add-table c =
-    let room : let args = c.args in
-    c.reverse_of-h.result.0 * args.n + args.n ≤ length args.table.now = let some = sym c.is_empty.ensures ∙ c.if-not-is_empty.true in
-    let known = back_keys c.requires c.loop-i.i c.loop-i-test.true c.loop-i.invariant.1 c.well_formed.1.1.1.1.1.1.0.1.0.1 _ some
-    c.well_formed.1.1.1.1.1.0.1.0.1 _ c.reverse_of-h.ensures in
-    row_room c.args.n c.reverse_of-h.result.0 known.asked.interface c.requires.room in
-    let end = room in omega arith
+    omega (
+      arith,
+      back_room c.requires _ c.loop-i-test.true c.loop-i.invariant.1 (omega arith) _
+          (sym c.is_empty.ensures ∙ c.if-not-is_empty.true) (omega arith) _ c.reverse_of-h.ensures,
+    )
 
 pub bounds-table-h : goal.bounds-table-h
 bounds-table-h c =
-    let room : let args = c.args in
-    c.reverse_of-h.result.0 * args.n + args.n ≤ length args.table.now = let some = sym c.is_empty.ensures ∙ c.if-not-is_empty.true in
-    let known = back_keys c.requires c.loop-i.i c.loop-i-test.true c.loop-i.invariant.1 c.well_formed.1.1.1.1.1.1.0.1.0.1 _ some
-    c.well_formed.1.1.1.1.1.0.1.0.1 _ c.reverse_of-h.ensures in
-    row_room c.args.n c.reverse_of-h.result.0 known.asked.interface c.requires.room in
-    let end = room in omega arith
+    omega (
+      arith,
+      back_room c.requires _ c.loop-i-test.true c.loop-i.invariant.1 (omega arith) _
+          (sym c.is_empty.ensures ∙ c.if-not-is_empty.true) (omega arith) _ c.reverse_of-h.ensures,
+    )
 
 pub loop-i-preserved : goal.loop-i-preserved
 loop-i-preserved c =
@@ -53,11 +42,11 @@ loop-i-preserved c =
       elim c.if-not-is_empty.branch [
         | then-not-is_empty w ↦
             rw w.table-is
-            (node_with_keys c.requires at.i node at.invariant.1 c.well_formed.1.1.1.1.1.1.0.1.0.1 _ (test ∙ w.if-not-is_empty.true)
-            c.well_formed.1.1.1.1.1.0.1.0.1 _ w.reverse_of-h.ensures w.backward_byte-byte.ensures)
+            (node_with_keys c.requires at.i node at.invariant.1 (omega arith) _ (test ∙ w.if-not-is_empty.true)
+            (omega arith) _ w.reverse_of-h.ensures w.backward_byte-byte.ensures)
         | else-not-is_empty w ↦
             rw w.table-is
-            (node_without_keys c.requires at.i node at.invariant.1 c.well_formed.1.1.1.1.1.1.0.1.0.1 _ (test ∙ w.if-not-is_empty.false))
+            (node_without_keys c.requires at.i node at.invariant.1 (omega arith) _ (test ∙ w.if-not-is_empty.false))
       ],
     )
 

@@ -1,12 +1,9 @@
 use native.Mathlib.Omega.{arith}
 use Rattle.paths.specs.inner.Square.{column_for}
 use Rattle.tables.specs.inner.Detours.{kept_for}
-use Rattle.tables.proofs.LeavingDestinations.{destinations_start, destination_given}
+use Rattle.tables.proofs.LeavingDestinations.{destination_given}
 use Rattle.tables.proofs.LeavingDestinations.{destinations_more, destinations_done}
 use Rattle.tables.proofs.backward.leave_out_keys.Goals as goal
-
-pub loop-d-init : goal.loop-d-init
-loop-d-init c = (omega arith, destinations_start c.requires)
 
 pub leave_out-requires : goal.leave_out-requires
 unfolding column_for kept_for

@@ -1,59 +1,57 @@
 -- `build_tables` refuses as `build_verdict` does, and then changes nothing. Else the network is accepted and the tables are long enough,
 -- so that each table is filled as its own functions promise: the backwarding table first as if no interface had key links, then without
 -- them.
-use mathlib.Core.Path.{refl}
+use Prim.Native.Nat.{ℕ, ◌*◌, ◌≤◌}
+use mathlib.Core.Path.{◌≡◌}
+use mathlib.Core.List.{List}
 use lib.ListN.{length}
-use Rattle.net.specs.Rows.{Rows}
-use Rattle.net.specs.Check.{Accepted}
-use Rattle.tables.specs.Lent.{LentTables, LongEnough}
-use Rattle.tables.proofs.Filling.{filled_again}
+use Rattle.graph.specs.Path.{All}
+use Rattle.net.specs.Rows.{Rows, network_of}
+use Rattle.net.specs.Refusals.{accepted}
+use Rattle.net.specs.declared.check.Verdict.{Verdict}
+use Rattle.paths.specs.inner.Square.{BestSquare}
+use Rattle.paths.specs.declared.cost.Cost.{Cost}
+use Rattle.tables.specs.Lent.{LentTables}
+use Rattle.tables.specs.Build.{build_verdict}
+use Rattle.tables.specs.inner.Given.{Filling}
 use Rattle.tables.proofs.BuildVerdicts.{build_accepted, build_room}
 use Rattle.tables.proofs.build.build_tables.Goals as goal
 
-pub returns-then-verdict-ne-NONE : goal.returns-then-verdict-ne-NONE
-returns-then-verdict-ne-NONE c =
-    record {
-      verdict = c.build_verdict-verdict.ensures;
-      refused = λ refusal. refl;
-      built = λ free. absurd (c.if-verdict-ne-NONE.true free);
-    }
+module _ (R : Rows) (T : LentTables) {v : Verdict} (is : v ≡ build_verdict R T) (free : v.number ≡ accepted)
+    {all : List (List Cost)} (square : BestSquare (network_of R) All all) where
+  -- a table with enough room can be filled once the checks have passed
+  with_room : (rows : ℕ) (table : List ℕ) → rows * R.nodes ≤ length table → Filling R rows table all
+  with_room rows table room = record { network = build_accepted R T is free; room = room; square = square }
+
+  -- the routing table has enough for a row of each node
+  for_routing : Filling R R.nodes T.routing all
+  for_routing = with_room R.nodes T.routing (build_room R T is free).for_routing
+
+  -- the forwarding table for one of each interface
+  for_forwarding : Filling R (2 * length R.low) T.forwarding all
+  for_forwarding = with_room (2 * length R.low) T.forwarding (build_room R T is free).for_forwarding
+
+  -- and so has the backwarding table
+  for_backwarding : Filling R (2 * length R.low) T.backwarding all
+  for_backwarding = with_room (2 * length R.low) T.backwarding (build_room R T is free).for_backwarding
 
 pub square_of-all-requires : goal.square_of-all-requires
-square_of-all-requires c =
-    let rows : Rows = record { nodes = c.args.n; low = c.args.low.now; high = c.args.high.now; weight = c.args.weight.now } in
-    let network : Accepted (rows) = build_accepted _ _ c.build_verdict-verdict.ensures c.if-verdict-ne-NONE.false in
-    network
+square_of-all-requires c = build_accepted _ _ c.build_verdict-verdict.ensures c.if-verdict-ne-NONE.false
 
 pub fill_routing-requires : goal.fill_routing-requires
-fill_routing-requires c =
-    let rows : Rows = record { nodes = c.args.n; low = c.args.low.now; high = c.args.high.now; weight = c.args.weight.now } in
-    let network : Accepted (rows) = build_accepted _ _ c.build_verdict-verdict.ensures c.if-verdict-ne-NONE.false in
-    let tables : LentTables = record { routing = c.args.routing.now; forwarding = c.args.forwarding.now; backwarding = c.args.backwarding.now } in
-    let room : LongEnough (rows).nodes (length (rows).low) (tables) = build_room (rows) (tables) c.build_verdict-verdict.ensures c.if-verdict-ne-NONE.false in
-    record { network = network; room = (room).for_routing; square = c.square_of-all.ensures }
+fill_routing-requires c = for_routing _ _ c.build_verdict-verdict.ensures c.if-verdict-ne-NONE.false c.square_of-all.ensures
 
 pub fill_without_own-kept-requires : goal.fill_without_own-kept-requires
 fill_without_own-kept-requires c =
-    let rows : Rows = record { nodes = c.args.n; low = c.args.low.now; high = c.args.high.now; weight = c.args.weight.now } in
-    let network : Accepted (rows) = build_accepted _ _ c.build_verdict-verdict.ensures c.if-verdict-ne-NONE.false in
-    let tables : LentTables = record { routing = c.args.routing.now; forwarding = c.args.forwarding.now; backwarding = c.args.backwarding.now } in
-    let room : LongEnough (rows).nodes (length (rows).low) (tables) = build_room (rows) (tables) c.build_verdict-verdict.ensures c.if-verdict-ne-NONE.false in
-    record { network = network; room = (room).for_backwarding; square = c.square_of-all.ensures }
+    for_backwarding _ _ c.build_verdict-verdict.ensures c.if-verdict-ne-NONE.false c.square_of-all.ensures
 
 pub leave_out_keys-requires : goal.leave_out_keys-requires
 leave_out_keys-requires c =
-    let rows : Rows = record { nodes = c.args.n; low = c.args.low.now; high = c.args.high.now; weight = c.args.weight.now } in
-    let network : Accepted (rows) = build_accepted _ _ c.build_verdict-verdict.ensures c.if-verdict-ne-NONE.false in
-    let tables : LentTables = record { routing = c.args.routing.now; forwarding = c.args.forwarding.now; backwarding = c.args.backwarding.now } in
-    let room : LongEnough (rows).nodes (length (rows).low) (tables) = build_room (rows) (tables) c.build_verdict-verdict.ensures c.if-verdict-ne-NONE.false in
     let own = c.fill_without_own-kept.ensures in
+    let filling = for_backwarding _ _ c.build_verdict-verdict.ensures c.if-verdict-ne-NONE.false c.square_of-all.ensures in
     record {
       given = record {
-        filling = record {
-          network = network;
-          room = rw own.filled.same_length (room).for_backwarding;
-          square = c.square_of-all.ensures;
-        };
+        filling = record { network = filling.network; room = rw own.filled.same_length filling.room; square = filling.square };
         keeps = own.square_kept;
       };
       own = own.filled.bytes;
@@ -61,23 +59,7 @@ leave_out_keys-requires c =
 
 pub fill_forwarding-requires : goal.fill_forwarding-requires
 fill_forwarding-requires c =
-    let rows : Rows = record { nodes = c.args.n; low = c.args.low.now; high = c.args.high.now; weight = c.args.weight.now } in
-    let network : Accepted (rows) = build_accepted _ _ c.build_verdict-verdict.ensures c.if-verdict-ne-NONE.false in
-    let tables : LentTables = record { routing = c.args.routing.now; forwarding = c.args.forwarding.now; backwarding = c.args.backwarding.now } in
-    let room : LongEnough (rows).nodes (length (rows).low) (tables) = build_room (rows) (tables) c.build_verdict-verdict.ensures c.if-verdict-ne-NONE.false in
     record {
-      filling = record { network = network; room = (room).for_forwarding; square = c.square_of-all.ensures };
+      filling = for_forwarding _ _ c.build_verdict-verdict.ensures c.if-verdict-ne-NONE.false c.square_of-all.ensures;
       keeps = c.fill_without_own-kept.ensures.square_kept;
-    }
-
-pub returns : goal.returns
-returns c =
-    record {
-      verdict = c.build_verdict-verdict.ensures;
-      refused = λ refusal. absurd (refusal c.if-verdict-ne-NONE.false);
-      built = λ free. record {
-        routes = c.fill_routing.ensures;
-        forwards = c.fill_forwarding.ensures;
-        backwards = filled_again c.fill_without_own-kept.ensures.filled c.leave_out_keys.ensures;
-      };
     }

@@ -1,120 +1,80 @@
-use Prim.Native.Nat.{◌+◌, ◌*◌, ◌≤◌, ◌<◌}
+use Prim.Native.Nat.{ℕ, ◌+◌, ◌*◌, ◌≤◌, ◌<◌}
 use mathlib.Core.Path.{◌≡◌, refl, sym, ap₂, ◌∙◌}
+use mathlib.Core.List.{List}
 use native.Mathlib.Omega.{arith}
-use lib.ListN.{length, length-take, length-drop}
+use lib.ListN.{length}
 use Rattle.graph.specs.Network.{link, head}
 use Rattle.graph.proofs.Interfaces.{head_node}
-use Rattle.net.specs.Rows.{Rows, Present, network_of}
+use Rattle.net.specs.Rows.{Rows, Present, network_of, head_of}
+use Rattle.net.specs.Limits.{most_nodes}
 use Rattle.net.proofs.Accepted.{well_formed}
 use Rattle.net.proofs.Rows.{interface_present, head_of_lem}
 use Rattle.paths.specs.inner.Square.{column_for}
+use Rattle.paths.specs.declared.cost.Cost.{Cost}
 use Rattle.tables.specs.inner.Detours.{forward_cost, kept_for}
-use Rattle.tables.proofs.Filling.{filled_start}
+use Rattle.tables.specs.inner.Given.{FillingByKept}
+use Rattle.tables.specs.declared.kept.Kept.{Kept}
 use Rattle.tables.proofs.RowBytes.{forwarding_row}
 use Rattle.tables.proofs.Building.{row_room, filled_row}
 use Rattle.tables.proofs.build.fill_forwarding.Goals as goal
 
-pub by_node-rows-requires : goal.by_node-rows-requires
-by_node-rows-requires c = c.requires.filling.network.few_nodes
+module _ {R : Rows} {table : List ℕ} {all : List (List Cost)} {kept : List (List Kept)} (G : FillingByKept R table all kept)
+    (h : ℕ) (interface : h < 2 * length R.low) where
+  open R use {nodes as n, low, high}
 
-pub kept_by_node-turned-requires : goal.kept_by_node-turned-requires
-kept_by_node-turned-requires c = c.requires.filling.network.few_nodes
+  -- the row of interface h ends within the table
+  row_end : h * n + n ≤ length table
+  row_end = row_room n h interface G.filling.room
 
-pub loop-h-init : goal.loop-h-init
-loop-h-init c = (refl, omega arith, filled_start _)
+  -- its link is there
+  present : Present R (link h)
+  present = interface_present R h interface
 
-pub overflow_mul-from : goal.overflow_mul-from
-overflow_mul-from c =
-    let room : let args = c.args in
-    c.loop-h.h * args.n + args.n ≤ length args.table.now = let args = c.args in
-    row_room {rows = 2 * length args.low.now} args.n c.loop-h.h (omega arith) c.requires.filling.room in
-    let end = room in omega arith
+  module _ {i : ℕ} (is : i ≡ head_of low high h) where
+    -- the head of interface h is the node that the code names i
+    enters : head (network_of R) h ≡ i
+    enters = head_of_lem R h ∙ sym is
 
-pub overflow_add-to : goal.overflow_add-to
-overflow_add-to c =
-    let room : let args = c.args in
-    c.loop-h.h * args.n + args.n ≤ length args.table.now = let args = c.args in
-    row_room {rows = 2 * length args.low.now} args.n c.loop-h.h (omega arith) c.requires.filling.room in
-    let end = room in omega arith
+    -- a node of the network
+    entered : i < n
+    entered = rw enters at (head_node (network_of R) (well_formed R G.filling.network) h present)
+
+    -- and one of the square's rows
+    entered_place : i < most_nodes
+    entered_place = omega (arith, entered, G.filling.network.few_nodes)
 
 pub offset_bounds-rows-i : goal.offset_bounds-rows-i
-offset_bounds-rows-i c =
-    let rows : Rows = record { nodes = c.args.n; low = c.args.low.now; high = c.args.high.now; weight = c.args.weight.now } in
-    let enters : head (network_of (rows)) c.loop-h.h ≡ c.head_of-i.result.0 = head_of_lem (rows) c.loop-h.h ∙ sym c.head_of-i.ensures in
-    let present : Present (rows) (link c.loop-h.h) = interface_present (rows) c.loop-h.h (omega arith) in
-    let node : c.head_of-i.result.0 < c.args.n = rw (enters) at
-    (head_node (network_of (rows)) (well_formed _ c.requires.filling.network) c.loop-h.h (present)) in
-    let entered = node in omega arith
+offset_bounds-rows-i c = omega (arith, entered_place c.requires c.loop-h.h (omega arith) c.head_of-i.ensures)
 
 pub bounds-rows-i : goal.bounds-rows-i
-bounds-rows-i c =
-    let rows : Rows = record { nodes = c.args.n; low = c.args.low.now; high = c.args.high.now; weight = c.args.weight.now } in
-    let enters : head (network_of (rows)) c.loop-h.h ≡ c.head_of-i.result.0 = head_of_lem (rows) c.loop-h.h ∙ sym c.head_of-i.ensures in
-    let present : Present (rows) (link c.loop-h.h) = interface_present (rows) c.loop-h.h (omega arith) in
-    let node : c.head_of-i.result.0 < c.args.n = rw (enters) at
-    (head_node (network_of (rows)) (well_formed _ c.requires.filling.network) c.loop-h.h (present)) in
-    let entered = node in omega arith
+bounds-rows-i c = omega (arith, entered_place c.requires c.loop-h.h (omega arith) c.head_of-i.ensures)
 
 pub offset_bounds-turned-i : goal.offset_bounds-turned-i
-offset_bounds-turned-i c =
-    let rows : Rows = record { nodes = c.args.n; low = c.args.low.now; high = c.args.high.now; weight = c.args.weight.now } in
-    let enters : head (network_of (rows)) c.loop-h.h ≡ c.head_of-i.result.0 = head_of_lem (rows) c.loop-h.h ∙ sym c.head_of-i.ensures in
-    let present : Present (rows) (link c.loop-h.h) = interface_present (rows) c.loop-h.h (omega arith) in
-    let node : c.head_of-i.result.0 < c.args.n = rw (enters) at
-    (head_node (network_of (rows)) (well_formed _ c.requires.filling.network) c.loop-h.h (present)) in
-    let entered = node in omega arith
+offset_bounds-turned-i c = omega (arith, entered_place c.requires c.loop-h.h (omega arith) c.head_of-i.ensures)
 
 pub bounds-turned-i : goal.bounds-turned-i
-bounds-turned-i c =
-    let rows : Rows = record { nodes = c.args.n; low = c.args.low.now; high = c.args.high.now; weight = c.args.weight.now } in
-    let enters : head (network_of (rows)) c.loop-h.h ≡ c.head_of-i.result.0 = head_of_lem (rows) c.loop-h.h ∙ sym c.head_of-i.ensures in
-    let present : Present (rows) (link c.loop-h.h) = interface_present (rows) c.loop-h.h (omega arith) in
-    let node : c.head_of-i.result.0 < c.args.n = rw (enters) at
-    (head_node (network_of (rows)) (well_formed _ c.requires.filling.network) c.loop-h.h (present)) in
-    let entered = node in omega arith
+bounds-turned-i c = omega (arith, entered_place c.requires c.loop-h.h (omega arith) c.head_of-i.ensures)
 
 pub slice_bounds-fill_row-end : goal.slice_bounds-fill_row-end
-slice_bounds-fill_row-end c =
-    let room : let args = c.args in
-    c.loop-h.h * args.n + args.n ≤ length args.table.now = let args = c.args in
-    row_room {rows = 2 * length args.low.now} args.n c.loop-h.h (omega arith) c.requires.filling.room in
-    let end = room in omega arith
-
-pub fill_row-requires : goal.fill_row-requires
-fill_row-requires c =
-    let room : let args = c.args in
-    c.loop-h.h * args.n + args.n ≤ length args.table.now = let args = c.args in
-    row_room {rows = 2 * length args.low.now} args.n c.loop-h.h (omega arith) c.requires.filling.room in
-    let end = room in
-    record { few_nodes = omega arith; width = simp (length-take, length-drop) (omega arith) }
+slice_bounds-fill_row-end c = omega (arith, row_end c.requires c.loop-h.h (omega arith))
 
 pub loop-h-preserved : goal.loop-h-preserved
 unfolding column_for kept_for
 loop-h-preserved c =
-    let room : let args = c.args in
-    c.loop-h.h * args.n + args.n ≤ length args.table.now = let args = c.args in
-    row_room {rows = 2 * length args.low.now} args.n c.loop-h.h (omega arith) c.requires.filling.room in
-    let rows : Rows = record { nodes = c.args.n; low = c.args.low.now; high = c.args.high.now; weight = c.args.weight.now } in
-    let present : Present (rows) (link c.loop-h.h) = interface_present (rows) c.loop-h.h (omega arith) in
-    let enters : head (network_of (rows)) c.loop-h.h ≡ c.head_of-i.result.0 = head_of_lem (rows) c.loop-h.h ∙ sym c.head_of-i.ensures in
-    let node : c.head_of-i.result.0 < c.args.n = rw (enters) at
-    (head_node (network_of (rows)) (well_formed _ c.requires.filling.network) c.loop-h.h (present)) in
-    let i = c.head_of-i.result.0 in
+    let given = c.requires in
     let at = c.loop-h in
-    let filling = c.requires.filling in (
+    let interface : at.h < 2 * length c.args.low.now = omega arith in
+    let i = c.head_of-i.result.0 in
+    let is = c.head_of-i.ensures in
+    let node = entered given at.h interface is in (
       at.invariant.0,
       omega arith,
-      filled_row at.invariant.2 refl (room) _ c.forward_costs-costs.result
-          (forwarding_row (rows) filling.network _ c.forward_costs-costs.result c.args.all c.args.kept
-          filling.square c.requires.keeps at.h (present) (enters)
+      filled_row at.invariant.2 refl (row_end given at.h interface) _ c.forward_costs-costs.result
+          (forwarding_row _ given.filling.network _ c.forward_costs-costs.result c.args.all c.args.kept
+          given.filling.square given.keeps at.h (present given at.h interface) (enters given at.h interface is)
           (λ d destination.
           c.forward_costs-costs.ensures d destination
-          ∙ ap₂ (forward_cost at.h) (c.by_node-rows.ensures i d (node) destination)
-          (c.kept_by_node-turned.ensures i d (node) destination)))
+          ∙ ap₂ (forward_cost at.h) (c.by_node-rows.ensures i d node destination)
+          (c.kept_by_node-turned.ensures i d node destination)))
           c.fill_row.ensures,
     )
-
-pub returns : goal.returns
-returns c =
-    let done : c.loop-h.h ≡ 2 * length c.args.low.now = omega arith in
-    rw done at c.loop-h.invariant.2

@@ -1,171 +1,61 @@
-use Prim.Native.Nat.{◌+◌, ◌*◌, ◌≤◌, ◌<◌}
-use mathlib.Core.Path.{◌≡◌, refl, ap, ◌∙◌}
+use Prim.Native.Nat.{ℕ, ◌+◌, ◌*◌, ◌≤◌, ◌<◌}
+use mathlib.Core.Path.{◌≡◌, refl}
+use mathlib.Core.List.{List}
 use native.Mathlib.Numerals.{add-one}
 use native.Mathlib.Omega.{arith}
-use lib.ListN.{length, get_or, length-take, length-drop}
+use lib.ListN.{length}
 use Rattle.graph.specs.Path.{But}
-use Rattle.net.specs.Check.{Joins}
-use Rattle.net.specs.Rows.{network_of}
-use Rattle.net.specs.inner.LinkSet.{with_link}
+use Rattle.net.specs.Rows.{Rows, network_of}
+use Rattle.net.specs.inner.LinkSet.{with_link, no_links, Without}
+use Rattle.net.specs.Check.{Accepted}
+use Rattle.net.specs.declared.link_set.LinkSet.{LinkSet}
 use Rattle.net.proofs.Accepted.{well_formed}
 use Rattle.paths.specs.inner.Square.{BestSquare}
+use Rattle.paths.specs.declared.cost.Cost.{Cost}
 use Rattle.paths.proofs.ColumnEntry.{column_but}
 use Rattle.tables.proofs.Detours.{kept_start}
 use Rattle.tables.proofs.Filling.{filled_start}
 use Rattle.tables.proofs.RowBytes.{own_row_from_low, own_row_from_high}
 use Rattle.tables.proofs.Building.{next_row, row_room, filled_row}
-use Rattle.tables.proofs.build.fill_without_own.Invariants.{given}
 use Rattle.tables.proofs.build.fill_without_own.Goals as goal
+
+-- The square that the code restarts with one link out is the one without that link.
+without_best : {R : Rows} → Accepted R → {k : ℕ} {none out : LinkSet} (without : List (List Cost)) → none ≡ no_links
+    → out ≡ with_link none k → BestSquare (network_of R) (Without out) without → BestSquare (network_of R) (But k) without
+without_best {R} network without is_empty is_only best d destination =
+    column_but (network_of R) (well_formed R network) (rw (is_only, is_empty) at (best d destination))
 
 pub loop-k-init : goal.loop-k-init
 loop-k-init c =
     (refl, omega arith, filled_start _, rw c.none_kept-kept.ensures (kept_start _ c.requires.network.few_nodes c.args.all))
 
-pub with_link-only-requires : goal.with_link-only-requires
-with_link-only-requires c =
-    let number : c.loop-k.k < length c.args.low.now = omega arith in
-    omega (arith, number, c.requires.network.few_links)
-
-pub square_without-without-requires : goal.square_without-without-requires
-square_without-without-requires c = c.requires.network
-
-pub overflow_mul-first-in-loop-k : goal.overflow_mul-first-in-loop-k
-overflow_mul-first-in-loop-k c =
-    let room : let args = c.args in
-    2 * c.loop-k.k * args.n + args.n + args.n ≤ length args.table.now = let args = c.args in
-    let k = c.loop-k.k in
-    rw (next_row (2 * k) args.n)
-    (row_room {rows = 2 * length args.low.now} args.n (2 * k + 1) (omega arith) c.requires.room) in
-    let end = room in omega arith
-
-pub overflow_add-second : goal.overflow_add-second
-overflow_add-second c =
-    let room : let args = c.args in
-    2 * c.loop-k.k * args.n + args.n + args.n ≤ length args.table.now = let args = c.args in
-    let k = c.loop-k.k in
-    rw (next_row (2 * k) args.n)
-    (row_room {rows = 2 * length args.low.now} args.n (2 * k + 1) (omega arith) c.requires.room) in
-    let end = room in omega arith
-
-pub overflow_add-third : goal.overflow_add-third
-overflow_add-third c =
-    let room : let args = c.args in
-    2 * c.loop-k.k * args.n + args.n + args.n ≤ length args.table.now = let args = c.args in
-    let k = c.loop-k.k in
-    rw (next_row (2 * k) args.n)
-    (row_room {rows = 2 * length args.low.now} args.n (2 * k + 1) (omega arith) c.requires.room) in
-    let end = room in omega arith
-
-pub costs_of-from_low-requires : goal.costs_of-from_low-requires
-costs_of-from_low-requires c =
-    let number : c.loop-k.k < length c.args.low.now = omega arith in
-    let joins : let args = c.args in
-    Joins args.n (get_or args.low.now c.loop-k.k 0) (get_or args.high.now c.loop-k.k 0)
-    (get_or args.weight.now c.loop-k.k 0) = c.requires.network.joins c.loop-k.k (number) in
-    let link = joins in
-    record { few_nodes = c.requires.network.few_nodes; node = omega arith }
-
-pub costs_of-from_high-requires : goal.costs_of-from_high-requires
-costs_of-from_high-requires c =
-    let number : c.loop-k.k < length c.args.low.now = omega arith in
-    let joins : let args = c.args in
-    Joins args.n (get_or args.low.now c.loop-k.k 0) (get_or args.high.now c.loop-k.k 0)
-    (get_or args.weight.now c.loop-k.k 0) = c.requires.network.joins c.loop-k.k (number) in
-    let link = joins in
-    record { few_nodes = c.requires.network.few_nodes; node = omega arith }
-
-pub slice_bounds-fill_row-end : goal.slice_bounds-fill_row-end
-slice_bounds-fill_row-end c =
-    let room : let args = c.args in
-    2 * c.loop-k.k * args.n + args.n + args.n ≤ length args.table.now = let args = c.args in
-    let k = c.loop-k.k in
-    rw (next_row (2 * k) args.n)
-    (row_room {rows = 2 * length args.low.now} args.n (2 * k + 1) (omega arith) c.requires.room) in
-    let end = room in omega arith
-
-pub fill_row-requires : goal.fill_row-requires
-fill_row-requires c =
-    let room : let args = c.args in
-    2 * c.loop-k.k * args.n + args.n + args.n ≤ length args.table.now = let args = c.args in
-    let k = c.loop-k.k in
-    rw (next_row (2 * k) args.n)
-    (row_room {rows = 2 * length args.low.now} args.n (2 * k + 1) (omega arith) c.requires.room) in
-    let end = room in
-    record { few_nodes = c.requires.network.few_nodes; width = simp (length-take, length-drop) (omega arith) }
-
-pub slice_bounds-fill_row-end-in-loop-k : goal.slice_bounds-fill_row-end-in-loop-k
-slice_bounds-fill_row-end-in-loop-k c =
-    let room : let args = c.args in
-    2 * c.loop-k.k * args.n + args.n + args.n ≤ length args.table.now = let args = c.args in
-    let k = c.loop-k.k in
-    rw (next_row (2 * k) args.n)
-    (row_room {rows = 2 * length args.low.now} args.n (2 * k + 1) (omega arith) c.requires.room) in
-    let end = room in omega arith
-
-pub fill_row-requires-in-loop-k : goal.fill_row-requires-in-loop-k
-fill_row-requires-in-loop-k c =
-    let room : let args = c.args in
-    2 * c.loop-k.k * args.n + args.n + args.n ≤ length args.table.now = let args = c.args in
-    let k = c.loop-k.k in
-    rw (next_row (2 * k) args.n)
-    (row_room {rows = 2 * length args.low.now} args.n (2 * k + 1) (omega arith) c.requires.room) in
-    let end = room in
-    record { few_nodes = c.requires.network.few_nodes; width = simp (length-take, length-drop) (omega arith) }
-
 pub note_link-next-requires : goal.note_link-next-requires
 note_link-next-requires c =
-    let number : c.loop-k.k < length c.args.low.now = omega arith in
-    let without_best : let args = c.args in
-    BestSquare (network_of (given args.n args.low.now args.high.now args.weight.now)) (But c.loop-k.k)
-    c.square_without-without.result = let pre = c.requires in
-    let only = c.with_link-only.ensures ∙ ap (λ s. with_link s c.loop-k.k) c.empty.ensures in
-    λ d destination. column_but _ (well_formed _ pre.network) (rw only at (c.square_without-without.ensures pre.square d destination)) in
-    let pre = c.requires in
+    let given = c.requires in
     record {
-      network = pre.network;
-      row = number;
-      square = pre.square;
-      square_without = without_best;
+      network = given.network;
+      row = omega arith;
+      square = given.square;
+      square_without =
+          without_best given.network _ c.empty.ensures c.with_link-only.ensures (c.square_without-without.ensures given.square);
       keeps = c.loop-k.invariant.3;
     }
 
-pub overflow_add-k : goal.overflow_add-k
-overflow_add-k c =
-    omega (arith, c.requires.network.few_links, c.loop-k.invariant.0, c.loop-k-test.true)
-
-pub loop-k-smaller : goal.loop-k-smaller
-loop-k-smaller c =
-    omega (arith, c.loop-k-test.true)
-
 pub loop-k-preserved : goal.loop-k-preserved
 loop-k-preserved c =
-    let room : let args = c.args in
-    2 * c.loop-k.k * args.n + args.n + args.n ≤ length args.table.now = let args = c.args in
-    let k = c.loop-k.k in
-    rw (next_row (2 * k) args.n)
-    (row_room {rows = 2 * length args.low.now} args.n (2 * k + 1) (omega arith) c.requires.room) in
-    let number : c.loop-k.k < length c.args.low.now = omega arith in
-    let without_best : let args = c.args in
-    BestSquare (network_of (given args.n args.low.now args.high.now args.weight.now)) (But c.loop-k.k)
-    c.square_without-without.result = let pre = c.requires in
-    let only = c.with_link-only.ensures ∙ ap (λ s. with_link s c.loop-k.k) c.empty.ensures in
-    λ d destination. column_but _ (well_formed _ pre.network) (rw only at (c.square_without-without.ensures pre.square d destination)) in
     let at = c.loop-k in
-    let args = c.args in
+    let n = c.args.n in
     let network = c.requires.network in
-    let end = room in
+    let without = c.square_without-without.result in
+    let number : at.k < length c.args.low.now = omega arith in
+    let room : 2 * at.k * n + n + n ≤ length c.args.table.now =
+    rw (next_row (2 * at.k) n) (row_room {rows = 2 * length c.args.low.now} n (2 * at.k + 1) (omega arith) c.requires.room) in
+    let best = without_best network _ c.empty.ensures c.with_link-only.ensures (c.square_without-without.ensures c.requires.square) in
     let first = filled_row at.invariant.2 refl (omega arith) _ c.costs_of-from_low.result
-    (own_row_from_low _ network _ c.costs_of-from_low.result c.square_without-without.result (number)
-    (without_best) c.costs_of-from_low.ensures c.end_at-x.ensures)
+    (own_row_from_low _ network _ c.costs_of-from_low.result without number best c.costs_of-from_low.ensures c.end_at-x.ensures)
     c.fill_row.ensures in
-    let second = filled_row first (next_row (2 * at.k) args.n) end _ c.costs_of-from_high.result
-    (own_row_from_high _ network _ c.costs_of-from_high.result c.square_without-without.result (number)
-    (without_best) c.costs_of-from_high.ensures c.end_at-y.ensures)
+    let second = filled_row first (next_row (2 * at.k) n) room _ c.costs_of-from_high.result
+    (own_row_from_high _ network _ c.costs_of-from_high.result without number best c.costs_of-from_high.ensures c.end_at-y.ensures)
     c.fill_row-in-loop-k.ensures in
     let rows : 2 * (at.k + 1) ≡ 2 * at.k + 1 + 1 = omega arith in
     (at.invariant.0, omega arith, rw rows second, rw add-one c.note_link-next.ensures)
-
-pub returns : goal.returns
-returns c =
-    let done : c.loop-k.k ≡ length c.args.low.now = omega arith in
-    record { filled = rw done at c.loop-k.invariant.2; square_kept = rw done at c.loop-k.invariant.3 }

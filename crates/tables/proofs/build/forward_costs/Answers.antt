@@ -8,9 +8,6 @@ use Rattle.paths.specs.inner.Column.{entry_at}
 use Rattle.tables.proofs.Reading.{forward_read}
 use Rattle.tables.proofs.build.forward_costs.Goals as goal
 
-pub loop-d-init : goal.loop-d-init
-loop-d-init c = (omega arith, c.well_formed.1.1.0.1.0.1, λ e h. absurd (omega arith))
-
 pub loop-d-preserved : goal.loop-d-preserved
 unfolding entry_at
 loop-d-preserved c =
@@ -20,9 +17,5 @@ loop-d-preserved c =
       below_more _ _
           (λ e h. get_or-set_other at.costs at.d e _ no_cost (λ q. omega arith) ∙ at.invariant.2 e h)
           (get_or-set_same at.costs at.d _ no_cost (omega arith)
-          ∙ forward_read _ at.d c.args.all c.args.kept (omega (arith, c.well_formed.1.1.0.1.0.1))
-          (omega (arith, c.well_formed.1.1.1.0.1.0.1)) _ _ c.forward_cost.ensures),
+          ∙ forward_read _ at.d c.args.all c.args.kept (omega arith) (omega arith) _ _ c.forward_cost.ensures),
     )
-
-pub returns : goal.returns
-returns c = λ d h. c.loop-d.invariant.2 d (omega arith)

@@ -9,13 +9,7 @@ returns-then-i-d c = simp (eq-eqb _ _ c.if-i-d.true)
 
 pub returns-then-known : goal.returns-then-known
 unfolding entry_byte
-returns-then-known c =
-    simp (
-      ne_eqb _ _ c.if-i-d.false,
-      ← c.known.ensures,
-      c.if-known.true,
-      ← c.onward.ensures,
-    )
+returns-then-known c = simp (ne_eqb _ _ c.if-i-d.false, ← c.known.ensures, c.if-known.true, ← c.onward.ensures)
 
 pub returns : goal.returns
 unfolding entry_byte

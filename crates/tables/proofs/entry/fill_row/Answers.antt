@@ -1,13 +1,8 @@
 use mathlib.Core.Path.{sym, ◌∙◌}
 use native.Mathlib.Omega.{arith}
 use lib.ListN.{length-set}
-use Rattle.tables.proofs.EntryRows.{row_begin, row_on, row_done}
+use Rattle.tables.proofs.EntryRows.{row_on, row_done}
 use Rattle.tables.proofs.entry.fill_row.Goals as goal
-
-pub loop-d-init : goal.loop-d-init
-loop-d-init c =
-    let args = c.args in
-    (omega arith, omega arith, row_begin args.n args.i args.costs args.row.now)
 
 pub loop-d-preserved : goal.loop-d-preserved
 loop-d-preserved c =

@@ -5,28 +5,23 @@ use borrow.Kind.Array.{e_struct}
 use Rattle.tables.specs.contracts.kept.Kept.{the_type}
 use Rattle.tables.proofs.kept.Kept.TheLaws.{the_laws, the_copy}
 use Rattle.paths.proofs.Shape.{Shaped, array_shaped, within}
-use Rattle.paths.proofs.Turning.{turned_start, turned_more, turned_row}
+use Rattle.paths.proofs.Turning.{turned_start, turned_more}
 use Rattle.tables.specs.inner.Detours.{nothing_kept, kept_for, kept_at}
 use Rattle.tables.proofs.kept.kept_by_node.Goals as goal
 
 pub loop-i-init : goal.loop-i-init
 loop-i-init c =
-    let shaped : Shaped c.args.kept = array_shaped (e_struct the_type the_laws the_copy).ty.own_val c.args.kept c.well_formed.0.0 c.well_formed.0.1.0.1 c.well_formed.0.1.1 in
-    turned_start nothing_kept (shaped)
-
-pub loop-d-init : goal.loop-d-init
-loop-d-init c = c.loop-i.invariant
+    turned_start nothing_kept
+    (array_shaped (e_struct the_type the_laws the_copy).ty.own_val _ _ c.well_formed.0.1.0.1 c.well_formed.0.1.1)
 
 pub loop-d-preserved : goal.loop-d-preserved
 loop-d-preserved c =
-    let shaped : Shaped c.args.kept = array_shaped (e_struct the_type the_laws the_copy).ty.own_val c.args.kept c.well_formed.0.0 c.well_formed.0.1.0.1 c.well_formed.0.1.1 in
+    let shaped : Shaped c.args.kept =
+    array_shaped (e_struct the_type the_laws the_copy).ty.own_val _ _ c.well_formed.0.1.0.1 c.well_formed.0.1.1 in
     let i = c.loop-i.i in
     let at = c.loop-d in
     turned_more nothing_kept at.invariant (omega arith) (omega arith)
-    (within (get_or c.args.kept at.d []) i _ nothing_kept (omega (arith, (shaped).row at.d (omega arith))))
-
-pub loop-i-preserved : goal.loop-i-preserved
-loop-i-preserved c = turned_row nothing_kept c.loop-d.invariant (omega arith)
+    (within (get_or c.args.kept at.d []) i _ nothing_kept (omega (arith, shaped.row at.d (omega arith))))
 
 pub returns : goal.returns
 unfolding kept_at kept_for

@@ -1,84 +1,31 @@
-use Prim.Native.Nat.{◌<◌}
 use mathlib.Core.Path.{sym, ◌∙◌}
 use native.Mathlib.Omega.{arith}
-use lib.ListN.{get_or}
-use Rattle.net.specs.Limits.{most_nodes}
-use Rattle.net.specs.Check.{Joins}
-use Rattle.tables.proofs.Noting.{noted_start, noted_uncrossed, noted_crossed, noted_done, ahead_node}
+use Rattle.tables.proofs.Noting.{noted_uncrossed, noted_crossed, ahead_place}
 use Rattle.tables.proofs.kept.note_column.Goals.{then-crosses_link, else-crosses_link}
 use Rattle.tables.proofs.kept.note_column.Goals as goal
 
-pub offset_bounds-without-end_at : goal.offset_bounds-without-end_at
-offset_bounds-without-end_at c =
-    let joins : Joins c.args.n (get_or c.args.low.now c.args.k 0) (get_or c.args.high.now c.args.k 0)
-    (get_or c.args.weight.now c.args.k 0) = c.requires.network.joins c.args.k c.requires.row in
-    let link = joins in omega arith
-
-pub bounds-without-end_at : goal.bounds-without-end_at
-bounds-without-end_at c =
-    let joins : Joins c.args.n (get_or c.args.low.now c.args.k 0) (get_or c.args.high.now c.args.k 0)
-    (get_or c.args.weight.now c.args.k 0) = c.requires.network.joins c.args.k c.requires.row in
-    let link = joins in omega arith
-
-pub offset_bounds-without-end_at-2 : goal.offset_bounds-without-end_at-2
-offset_bounds-without-end_at-2 c =
-    let joins : Joins c.args.n (get_or c.args.low.now c.args.k 0) (get_or c.args.high.now c.args.k 0)
-    (get_or c.args.weight.now c.args.k 0) = c.requires.network.joins c.args.k c.requires.row in
-    let link = joins in omega arith
-
-pub bounds-without-end_at-2 : goal.bounds-without-end_at-2
-bounds-without-end_at-2 c =
-    let joins : Joins c.args.n (get_or c.args.low.now c.args.k 0) (get_or c.args.high.now c.args.k 0)
-    (get_or c.args.weight.now c.args.k 0) = c.requires.network.joins c.args.k c.requires.row in
-    let link = joins in omega arith
-
-pub loop-i-init : goal.loop-i-init
-loop-i-init c = (omega arith, noted_start c.well_formed.0.1.0.1)
-
 pub offset_bounds-without-j : goal.offset_bounds-without-j
 offset_bounds-without-j c =
-    let ahead-place : c.head_of-j.result.0 < most_nodes = let crosses = sym c.crosses_link.ensures ∙ c.if-crosses_link.true in
-    let node = ahead_node c.requires c.well_formed.1.0.1.0.1 c.loop-i.i c.loop-i-test.true _ crosses in
-    omega (arith, c.head_of-j.ensures, node, c.requires.network.few_nodes) in
-    omega (arith, ahead-place)
+    let place = ahead_place c.requires (omega arith) _ c.loop-i-test.true _ (sym c.crosses_link.ensures ∙ c.if-crosses_link.true)
+    c.head_of-j.ensures in
+    omega (arith, place)
 
 pub bounds-without-j : goal.bounds-without-j
 bounds-without-j c =
-    let ahead-place : c.head_of-j.result.0 < most_nodes = let crosses = sym c.crosses_link.ensures ∙ c.if-crosses_link.true in
-    let node = ahead_node c.requires c.well_formed.1.0.1.0.1 c.loop-i.i c.loop-i-test.true _ crosses in
-    omega (arith, c.head_of-j.ensures, node, c.requires.network.few_nodes) in
-    ahead-place
-
-pub noted-requires : goal.noted-requires
-noted-requires c =
-    let given = c.requires in
-    omega (arith, given.row, given.network.few_links)
-
-pub offset_bounds-next-i-then-crosses_link : goal.offset_bounds-next-i-then-crosses_link
-offset_bounds-next-i-then-crosses_link c =
-    let node-place : c.loop-i.i < most_nodes = omega (arith, c.loop-i-test.true, c.requires.network.few_nodes) in
-    omega (arith, node-place)
-
-pub bounds-next-i-then-crosses_link : goal.bounds-next-i-then-crosses_link
-bounds-next-i-then-crosses_link c =
-    let node-place : c.loop-i.i < most_nodes = omega (arith, c.loop-i-test.true, c.requires.network.few_nodes) in
-    node-place
+    ahead_place c.requires (omega arith) _ c.loop-i-test.true _ (sym c.crosses_link.ensures ∙ c.if-crosses_link.true) c.head_of-j.ensures
 
 pub loop-i-preserved : goal.loop-i-preserved
 loop-i-preserved c =
     let at = c.loop-i in
-    let node = c.loop-i-test.true in
     let test = sym c.crosses_link.ensures in (
       omega arith,
       elim c.if-crosses_link.branch [
         | then-crosses_link w ↦
             rw w.next-is
-            (noted_crossed c.requires c.well_formed.1.0.1.0.1 at.i node _ (test ∙ w.if-crosses_link.true) at.invariant.1
-            c.well_formed.1.1.0.1.0.1 _ w.head_of-j.ensures c.end_at.ensures c.end_at-2.ensures w.noted.ensures)
+            (noted_crossed c.requires (omega arith) at.i c.loop-i-test.true _ (test ∙ w.if-crosses_link.true) at.invariant.1
+            (omega arith) _ w.head_of-j.ensures c.end_at.ensures c.end_at-2.ensures w.noted.ensures)
         | else-crosses_link w ↦
-            rw w.next-is (noted_uncrossed c.requires c.well_formed.1.0.1.0.1 at.i node _ at.invariant.1 (test ∙ w.if-crosses_link.false))
+            rw w.next-is
+            (noted_uncrossed c.requires (omega arith) at.i c.loop-i-test.true _ at.invariant.1 (test ∙ w.if-crosses_link.false))
       ],
     )
-
-pub returns : goal.returns
-returns c = noted_done (omega arith) c.loop-i.invariant.1

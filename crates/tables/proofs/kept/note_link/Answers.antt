@@ -1,4 +1,4 @@
-use mathlib.Core.Path.{refl, ◌∙◌}
+use mathlib.Core.Path.{◌∙◌}
 use mathlib.Core.List.{[]}
 use native.Mathlib.Omega.{arith}
 use borrow.Author.Count.{below_more}
@@ -7,9 +7,6 @@ use lib.Seq.{get_or-set_same, get_or-set_other}
 use Rattle.paths.specs.inner.Square.{column_for}
 use Rattle.tables.specs.inner.Detours.{kept_for}
 use Rattle.tables.proofs.kept.note_link.Goals as goal
-
-pub loop-d-init : goal.loop-d-init
-loop-d-init c = (c.well_formed.0.1.0.1, λ e h. refl, λ e h. absurd (omega arith))
 
 pub note_column-new-requires : goal.note_column-new-requires
 unfolding column_for kept_for
@@ -35,6 +32,3 @@ loop-d-preserved c =
       below_more _ _ (λ e h. rw (get_or-set_other at.next at.d e column [] (λ q. omega arith)) (at.invariant.2 e h))
           (rw (get_or-set_same at.next at.d column [] (omega arith)) c.note_column-new.ensures),
     )
-
-pub returns : goal.returns
-returns c = λ d h. c.loop-d.invariant.2 d (omega arith)

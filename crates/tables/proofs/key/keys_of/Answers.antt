@@ -3,12 +3,9 @@ use mathlib.Core.Bool.{false≢true}
 use mathlib.Core.Path.{refl, sym, ap, ◌∙◌}
 use native.Mathlib.Numerals.{add-one}
 use native.Mathlib.Omega.{arith}
-use lib.ListN.{length, get_or}
-use Rattle.net.specs.Limits.{most_nodes}
-use Rattle.net.specs.Check.{Joins}
+use lib.ListN.{length}
 use Rattle.net.specs.inner.LinkSet.{with_link}
-use Rattle.tables.proofs.KeyLoop.{head_below, tail_below, no_keys_here}
-use Rattle.tables.proofs.KeyLoop.{keys_begin, keys_with, keys_without, keys_done, key_read}
+use Rattle.tables.proofs.KeyLoop.{no_keys_here, keys_begin, keys_with, keys_without, key_read, head_place, tail_place}
 use Rattle.tables.proofs.key.keys_of.Goals.{then-is_key, else-is_key}
 use Rattle.tables.proofs.key.keys_of.Goals as goal
 
@@ -16,110 +13,26 @@ pub returns-then-i-d : goal.returns-then-i-d
 returns-then-i-d c =
     rw c.empty.ensures (no_keys_here c.requires (sym c.head_of-i.ensures ∙ c.if-i-d.true))
 
-pub column_of-all-requires : goal.column_of-all-requires
-column_of-all-requires c =
-    let asked = c.requires in
-    record { network = asked.network; destination = asked.destination }
-
 pub offset_bounds-all-i : goal.offset_bounds-all-i
-offset_bounds-all-i c =
-    let head-place : c.head_of-i.result.0 < most_nodes = let asked = c.requires in
-    omega (arith, asked.network.few_nodes, head_below asked, c.head_of-i.ensures) in
-    omega (arith, head-place)
+offset_bounds-all-i c = omega (arith, head_place c.requires c.head_of-i.ensures)
 
 pub bounds-all-i : goal.bounds-all-i
-bounds-all-i c =
-    let head-place : c.head_of-i.result.0 < most_nodes = let asked = c.requires in
-    omega (arith, asked.network.few_nodes, head_below asked, c.head_of-i.ensures) in
-    head-place
+bounds-all-i c = head_place c.requires c.head_of-i.ensures
 
 pub loop-k-init : goal.loop-k-init
 loop-k-init c = (refl, omega arith, rw c.empty-keys.ensures keys_begin)
 
-pub with_link-only-requires : goal.with_link-only-requires
-with_link-only-requires c =
-    let number : c.loop-k.k < length c.args.low.now = omega (arith, c.loop-k.invariant.0, c.loop-k-test.true) in
-    omega (arith, number, c.requires.network.few_links)
-
-pub column_without-without-requires : goal.column_without-without-requires
-column_without-without-requires c = c.requires.network
-
 pub offset_bounds-without-i : goal.offset_bounds-without-i
-offset_bounds-without-i c =
-    let head-place : c.head_of-i.result.0 < most_nodes = let asked = c.requires in
-    omega (arith, asked.network.few_nodes, head_below asked, c.head_of-i.ensures) in
-    omega (arith, head-place)
+offset_bounds-without-i c = omega (arith, head_place c.requires c.head_of-i.ensures)
 
 pub bounds-without-i : goal.bounds-without-i
-bounds-without-i c =
-    let head-place : c.head_of-i.result.0 < most_nodes = let asked = c.requires in
-    omega (arith, asked.network.few_nodes, head_below asked, c.head_of-i.ensures) in
-    head-place
+bounds-without-i c = head_place c.requires c.head_of-i.ensures
 
 pub offset_bounds-without-j : goal.offset_bounds-without-j
-offset_bounds-without-j c =
-    let tail-place : c.tail_of-j.result.0 < most_nodes = let asked = c.requires in
-    omega (arith, asked.network.few_nodes, tail_below asked, c.tail_of-j.ensures) in
-    omega (arith, tail-place)
+offset_bounds-without-j c = omega (arith, tail_place c.requires c.tail_of-j.ensures)
 
 pub bounds-without-j : goal.bounds-without-j
-bounds-without-j c =
-    let tail-place : c.tail_of-j.result.0 < most_nodes = let asked = c.requires in
-    omega (arith, asked.network.few_nodes, tail_below asked, c.tail_of-j.ensures) in
-    tail-place
-
-pub offset_bounds-without-x : goal.offset_bounds-without-x
-offset_bounds-without-x c =
-    let number : c.loop-k.k < length c.args.low.now = omega (arith, c.loop-k.invariant.0, c.loop-k-test.true) in
-    let joins : let args = c.args in
-    Joins args.n (get_or args.low.now c.loop-k.k 0) (get_or args.high.now c.loop-k.k 0)
-    (get_or args.weight.now c.loop-k.k 0) = c.requires.network.joins c.loop-k.k (number) in
-    let low_place : c.end_at-x.result < most_nodes = let network = c.requires.network in
-    omega (arith, network.few_nodes, joins, c.end_at-x.ensures) in
-    omega (arith, low_place)
-
-pub bounds-without-x : goal.bounds-without-x
-bounds-without-x c =
-    let number : c.loop-k.k < length c.args.low.now = omega (arith, c.loop-k.invariant.0, c.loop-k-test.true) in
-    let joins : let args = c.args in
-    Joins args.n (get_or args.low.now c.loop-k.k 0) (get_or args.high.now c.loop-k.k 0)
-    (get_or args.weight.now c.loop-k.k 0) = c.requires.network.joins c.loop-k.k (number) in
-    let low_place : c.end_at-x.result < most_nodes = let network = c.requires.network in
-    omega (arith, network.few_nodes, joins, c.end_at-x.ensures) in
-    low_place
-
-pub offset_bounds-without-y : goal.offset_bounds-without-y
-offset_bounds-without-y c =
-    let number : c.loop-k.k < length c.args.low.now = omega (arith, c.loop-k.invariant.0, c.loop-k-test.true) in
-    let joins : let args = c.args in
-    Joins args.n (get_or args.low.now c.loop-k.k 0) (get_or args.high.now c.loop-k.k 0)
-    (get_or args.weight.now c.loop-k.k 0) = c.requires.network.joins c.loop-k.k (number) in
-    let high_place : c.end_at-y.result < most_nodes = let network = c.requires.network in
-    omega (arith, network.few_nodes, joins, c.end_at-y.ensures) in
-    omega (arith, high_place)
-
-pub bounds-without-y : goal.bounds-without-y
-bounds-without-y c =
-    let number : c.loop-k.k < length c.args.low.now = omega (arith, c.loop-k.invariant.0, c.loop-k-test.true) in
-    let joins : let args = c.args in
-    Joins args.n (get_or args.low.now c.loop-k.k 0) (get_or args.high.now c.loop-k.k 0)
-    (get_or args.weight.now c.loop-k.k 0) = c.requires.network.joins c.loop-k.k (number) in
-    let high_place : c.end_at-y.result < most_nodes = let network = c.requires.network in
-    omega (arith, network.few_nodes, joins, c.end_at-y.ensures) in
-    high_place
-
-pub with_link-more-requires : goal.with_link-more-requires
-with_link-more-requires c =
-    let number : c.loop-k.k < length c.args.low.now = omega (arith, c.loop-k.invariant.0, c.loop-k-test.true) in
-    omega (arith, number, c.requires.network.few_links)
-
-pub overflow_add-k : goal.overflow_add-k
-overflow_add-k c =
-    let number : c.loop-k.k < length c.args.low.now = omega (arith, c.loop-k.invariant.0, c.loop-k-test.true) in
-    omega (arith, number, c.requires.network.few_links)
-
-pub loop-k-smaller : goal.loop-k-smaller
-loop-k-smaller c = omega (arith, c.loop-k-test.true)
+bounds-without-j c = tail_place c.requires c.tail_of-j.ensures
 
 pub loop-k-preserved : goal.loop-k-preserved
 loop-k-preserved c =
@@ -143,6 +56,3 @@ loop-k-preserved c =
                 rw w.keys-is (keys_without at.keys (λ found. false≢true (sym (test ∙ w.if-is_key.false) ∙ key.1 found)) at.invariant.2)
           ]),
     )
-
-pub returns : goal.returns
-returns c = let at = c.loop-k in keys_done at.keys at.invariant.2 (omega arith)

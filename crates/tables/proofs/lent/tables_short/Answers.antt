@@ -1,17 +1,10 @@
 -- `tables_short` makes the tests of `tables_short`, one table after the other.
 use mathlib.Core.Path.{sym}
-use native.Mathlib.Omega.{arith}
-use Rattle.tables.proofs.Lengths.{routing_short, forwarding_short, backwarding_left, few_squared, few_rows}
+use Rattle.tables.proofs.Lengths.{routing_short, forwarding_short, backwarding_left}
 use Rattle.tables.proofs.lent.tables_short.Goals as goal
-
-pub overflow_mul-n : goal.overflow_mul-n
-overflow_mul-n c = omega (arith, few_squared c.requires)
 
 pub returns-then-routing-n : goal.returns-then-routing-n
 returns-then-routing-n c = sym (routing_short _ _ _ c.if-routing-n.true)
-
-pub overflow_mul-rows-2 : goal.overflow_mul-rows-2
-overflow_mul-rows-2 c = omega (arith, few_rows c.requires)
 
 pub returns-then-forwarding-rows : goal.returns-then-forwarding-rows
 returns-then-forwarding-rows c = sym (forwarding_short _ _ _ c.if-routing-n.false c.if-forwarding-rows.true)

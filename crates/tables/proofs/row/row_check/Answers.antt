@@ -1,8 +1,6 @@
 -- `row_check` makes the tests of `row_check`; the last one counts the whole rows of the table.
-use mathlib.Core.Bool.{false}
-use mathlib.Core.Path.{◌≡◌, sym, ◌∙◌}
+use mathlib.Core.Path.{sym, ◌∙◌}
 use native.Mathlib.Omega.{arith}
-use Rattle.net.specs.Check.{bad_node_count}
 use Rattle.tables.proofs.RowLookup.{row_nodes_refused, some_node, row_past, row_inside}
 use Rattle.tables.proofs.row.row_check.Goals as goal
 
@@ -12,17 +10,10 @@ returns-then-bad_node_count c =
 
 pub nonzero_div-table : goal.nonzero_div-table
 nonzero_div-table c =
-    let good : bad_node_count c.args.n ≡ false = sym c.bad_node_count.ensures ∙ c.if-bad_node_count.false in
-    let args = c.args in
-    let some = some_node args.table.now args.n args.interface.0 (good) in
-    omega arith
+    omega (arith, some_node c.args.table.now c.args.n c.args.interface.0 (sym c.bad_node_count.ensures ∙ c.if-bad_node_count.false))
 
 pub returns-then-table-n : goal.returns-then-table-n
-returns-then-table-n c =
-    let good : bad_node_count c.args.n ≡ false = sym c.bad_node_count.ensures ∙ c.if-bad_node_count.false in
-    sym (row_past c.args.table.now _ _ (good) c.if-table-n.true)
+returns-then-table-n c = sym (row_past c.args.table.now _ _ (sym c.bad_node_count.ensures ∙ c.if-bad_node_count.false) c.if-table-n.true)
 
 pub returns : goal.returns
-returns c =
-    let good : bad_node_count c.args.n ≡ false = sym c.bad_node_count.ensures ∙ c.if-bad_node_count.false in
-    sym (row_inside c.args.table.now _ _ (good) c.if-table-n.false)
+returns c = sym (row_inside c.args.table.now _ _ (sym c.bad_node_count.ensures ∙ c.if-bad_node_count.false) c.if-table-n.false)

@@ -1,9 +1,7 @@
 -- `row_of` hands back the part of the table that `row_of` cuts out: after the check the row ends within the table, so its place and end
 -- are numbers that memory holds.
-use Prim.Native.Nat.{◌+◌, ◌*◌, ◌≤◌}
 use mathlib.Core.Path.{sym, ◌∙◌}
 use native.Mathlib.Omega.{arith}
-use lib.ListN.{length}
 use Rattle.tables.proofs.RowLookup.{row_end, row_refused, row_found}
 use Rattle.tables.proofs.row.row_of.Goals as goal
 
@@ -12,22 +10,13 @@ returns-then-row_check-ne-NONE c =
     sym (row_refused c.args.table.now _ _ (λ e. c.if-row_check-ne-NONE.true (c.row_check.ensures ∙ e)))
 
 pub overflow_mul-from : goal.overflow_mul-from
-overflow_mul-from c =
-    let inside : let args = c.args in
-    args.interface.0 * args.n + args.n ≤ length args.table.now = row_end c.args.table.now _ _ (sym c.row_check.ensures ∙ c.if-row_check-ne-NONE.false) in
-    omega (arith, inside)
+overflow_mul-from c = omega (arith, row_end c.args.table.now _ _ (sym c.row_check.ensures ∙ c.if-row_check-ne-NONE.false))
 
 pub overflow_add-to : goal.overflow_add-to
-overflow_add-to c =
-    let inside : let args = c.args in
-    args.interface.0 * args.n + args.n ≤ length args.table.now = row_end c.args.table.now _ _ (sym c.row_check.ensures ∙ c.if-row_check-ne-NONE.false) in
-    omega (arith, inside)
+overflow_add-to c = omega (arith, row_end c.args.table.now _ _ (sym c.row_check.ensures ∙ c.if-row_check-ne-NONE.false))
 
 pub slice_bounds-result-end-2 : goal.slice_bounds-result-end-2
-slice_bounds-result-end-2 c =
-    let inside : let args = c.args in
-    args.interface.0 * args.n + args.n ≤ length args.table.now = row_end c.args.table.now _ _ (sym c.row_check.ensures ∙ c.if-row_check-ne-NONE.false) in
-    inside
+slice_bounds-result-end-2 c = row_end c.args.table.now _ _ (sym c.row_check.ensures ∙ c.if-row_check-ne-NONE.false)
 
 pub returns : goal.returns
 returns c =
