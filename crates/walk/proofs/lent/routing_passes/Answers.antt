@@ -1,36 +1,12 @@
-use Prim.Native.Nat.{ℕ, ◌+◌, ◌*◌, ◌≤◌}
+use Prim.Native.Nat.{ℕ}
 use mathlib.Core.Path.{◌≡◌, refl, sym, ◌∙◌}
 use native.Mathlib.Omega.{arith}
 use borrow.Author.Rules.{rules}
-use lib.ListN.{length}
-use Rattle.walk.proofs.Below.{row_test, table_is, row_within, row_as_part, below_none, below_one_more, below_fails, below_all}
+use Rattle.walk.proofs.Below.{row_test, table_is, row_as_part, below_none, below_one_more, below_fails, below_all}
 use Rattle.walk.proofs.lent.routing_passes.Goals as goal
 
 pub loop-i-init : goal.loop-i-init
 loop-i-init c = record { within = search rules; so_far = below_none _ }
-
-pub overflow_mul-from : goal.overflow_mul-from
-overflow_mul-from c =
-    let in_table : let a = c.args in c.loop-i.i * a.n + a.n ≤ length a.table.now = row_within _ _ _ _ c.loop-i-test.true c.requires.room in
-    omega (arith, in_table)
-
-pub overflow_add-to : goal.overflow_add-to
-overflow_add-to c =
-    let in_table : let a = c.args in c.loop-i.i * a.n + a.n ≤ length a.table.now = row_within _ _ _ _ c.loop-i-test.true c.requires.room in
-    omega (arith, in_table)
-
-pub slice_bounds-row_passes-start : goal.slice_bounds-row_passes-start
-slice_bounds-row_passes-start c =
-    let in_table : let a = c.args in c.loop-i.i * a.n + a.n ≤ length a.table.now = row_within _ _ _ _ c.loop-i-test.true c.requires.room in
-    omega (arith, in_table)
-
-pub slice_bounds-row_passes-end : goal.slice_bounds-row_passes-end
-slice_bounds-row_passes-end c =
-    let in_table : let a = c.args in c.loop-i.i * a.n + a.n ≤ length a.table.now = row_within _ _ _ _ c.loop-i-test.true c.requires.room in
-    omega (arith, in_table)
-
-pub row_passes-requires : goal.row_passes-requires
-row_passes-requires c = c.requires.paired
 
 pub returns-then-not-row_passes : goal.returns-then-not-row_passes
 returns-then-not-row_passes c =

@@ -23,32 +23,12 @@ exhausted_number : 3 ≡ ending_number exhausted
 unfolding ending_number
 exhausted_number = refl
 
-pub backwarding_move-overflow_mul-back : goal.backwarding_move-overflow_mul-back
-backwarding_move-overflow_mul-back t c =
-    let a = c.args in
-    let standing = c.requires.standing in
-    let row : a.f.0 * a.n + a.n ≤ length a.backwarding.now = grounds.backwarding_row standing.ground a.f.0 c.requires.interface in
-    let table : length a.backwarding.now < 2 ^ 64 = omega arith in
-    grounds.row_fits _ _ _ row table
-
-pub backwarding_move-overflow_add-back : goal.backwarding_move-overflow_add-back
-backwarding_move-overflow_add-back t c =
-    let a = c.args in
-    let standing = c.requires.standing in
-    let row : a.f.0 * a.n + a.n ≤ length a.backwarding.now = grounds.backwarding_row standing.ground a.f.0 c.requires.interface in
-    let table : length a.backwarding.now < 2 ^ 64 = omega arith in
-    grounds.place_fits _ _ _ _ row standing.destination table
-
 pub backwarding_move-bounds-backwarding-f : goal.backwarding_move-bounds-backwarding-f
 backwarding_move-bounds-backwarding-f t c =
     let a = c.args in
     let standing = c.requires.standing in
     let row : a.f.0 * a.n + a.n ≤ length a.backwarding.now = grounds.backwarding_row standing.ground a.f.0 c.requires.interface in
     grounds.place_within _ _ _ _ row standing.destination
-
-pub backwarding_move-look_up-requires : goal.backwarding_move-look_up-requires
-backwarding_move-look_up-requires t c =
-    grounds.look_up_at c.requires.standing.ground
 
 pub backwarding_move-returns-in_default : goal.backwarding_move-returns-in_default
 backwarding_move-returns-in_default t c on leaves =
@@ -64,12 +44,6 @@ backwarding_move-returns-then-blocked t c on leaves =
     went_ends _ _ _ dropped _ dropped_number
     (turned_drops on _ _ _ leaves _ (leads on).entry (sym c.blocked.ensures ∙ c.if-blocked.true))
 
-pub backwarding_move-overflow_add-next : goal.backwarding_move-overflow_add-next
-backwarding_move-overflow_add-next t c =
-    let a = c.args in
-    let trace : length a.trace.now < 2 ^ 64 = omega arith in
-    grounds.hop_fits _ a.packet.left _ c.requires.standing.room (λ e. omega (arith, c.requires.some)) trace
-
 pub backwarding_move-overflow_cast-trace : goal.backwarding_move-overflow_cast-trace
 backwarding_move-overflow_cast-trace t c =
     let a = c.args in
@@ -80,10 +54,6 @@ backwarding_move-overflow_cast-trace t c =
     let known : grounds.Leads standing.ground a.packet.node.0 byte c.in-Next.node c.in-Next.g = leads standing.ground in
     let few : a.n ≤ most_nodes = grounds.few_nodes standing.ground in
     omega (arith, known.node, few)
-
-pub backwarding_move-bounds-trace-next : goal.backwarding_move-bounds-trace-next
-backwarding_move-bounds-trace-next t c =
-    omega (arith, c.requires.standing.room, c.requires.some)
 
 pub backwarding_move-overflow_mul-entry : goal.backwarding_move-overflow_mul-entry
 backwarding_move-overflow_mul-entry t c =
@@ -119,14 +89,6 @@ backwarding_move-bounds-forwarding-g t c =
     let known : grounds.Leads standing.ground a.packet.node.0 byte c.in-Next.node c.in-Next.g = leads standing.ground in
     let few : a.n ≤ most_nodes = grounds.few_nodes standing.ground in
     grounds.place_within _ _ _ _ known.row standing.destination
-
-pub backwarding_move-moved-requires : goal.backwarding_move-moved-requires
-backwarding_move-moved-requires t c =
-    let trace : length c.args.trace.now < 2 ^ 64 = omega arith in
-    record {
-      some = omega (arith, c.requires.some);
-      counts = omega (arith, c.requires.standing.room, c.requires.some, trace);
-    }
 
 pub backwarding_move-forwarding_move-requires : goal.backwarding_move-forwarding_move-requires
 unfolding moved_on
@@ -164,18 +126,10 @@ backwarding_move-returns t c on leaves =
     c.moved.ensures (leads on).enters (omega (arith, c.requires.standing.room, c.requires.some))
     (c.forwarding_move.ensures on)
 
-pub forwarding_move-loop-here-init : goal.forwarding_move-loop-here-init
-forwarding_move-loop-here-init t c =
-    record { standing = c.requires; same_length = refl; fewer = omega arith; whole = λ on r after went. went }
-
 pub forwarding_move-returns-then-here-eq0 : goal.forwarding_move-returns-then-here-eq0
 forwarding_move-returns-then-here-eq0 t c on =
     c.loop-here.invariant.whole on _ _
     (went_ends _ _ _ exhausted _ exhausted_number (course_exhausted on _ _ c.loop-here-test.true c.if-here-eq0.true))
-
-pub forwarding_move-look_up-requires : goal.forwarding_move-look_up-requires
-forwarding_move-look_up-requires t c =
-    grounds.look_up_at c.loop-here.invariant.standing.ground
 
 pub forwarding_move-returns-in_default : goal.forwarding_move-returns-in_default
 forwarding_move-returns-in_default t c on =
@@ -210,15 +164,6 @@ forwarding_move-returns-then-blocked t c on =
     (sym c.blocked.ensures ∙ c.if-blocked.true))
     (c.backwarding_move.ensures on (leads on).leaves))
 
-pub forwarding_move-overflow_add-next : goal.forwarding_move-overflow_add-next
-forwarding_move-overflow_add-next t c =
-    let a = c.args in
-    let here = c.loop-here.here in
-    let standing = c.loop-here.invariant.standing in
-    let lent : length a.trace.now < 2 ^ 64 = omega arith in
-    let trace : length c.loop-here.trace < 2 ^ 64 = omega (arith, c.loop-here.invariant.same_length, lent) in
-    grounds.hop_fits _ here.left _ standing.room c.if-here-eq0.false trace
-
 pub forwarding_move-overflow_cast-trace : goal.forwarding_move-overflow_cast-trace
 forwarding_move-overflow_cast-trace t c =
     let a = c.args in
@@ -229,10 +174,6 @@ forwarding_move-overflow_cast-trace t c =
     let known : grounds.Leads standing.ground here.node.0 here.entry c.in-Next.node c.in-Next.f = leads standing.ground in
     let few : a.n ≤ most_nodes = grounds.few_nodes standing.ground in
     omega (arith, known.node, few)
-
-pub forwarding_move-bounds-trace-next : goal.forwarding_move-bounds-trace-next
-forwarding_move-bounds-trace-next t c =
-    omega (arith, c.loop-here.invariant.standing.room, c.if-here-eq0.false)
 
 pub forwarding_move-overflow_mul-entry : goal.forwarding_move-overflow_mul-entry
 forwarding_move-overflow_mul-entry t c =
@@ -268,18 +209,6 @@ forwarding_move-bounds-forwarding-f t c =
     let known : grounds.Leads standing.ground here.node.0 here.entry c.in-Next.node c.in-Next.f = leads standing.ground in
     let few : a.n ≤ most_nodes = grounds.few_nodes standing.ground in
     grounds.place_within _ _ _ _ known.row standing.destination
-
-pub forwarding_move-moved-here-requires : goal.forwarding_move-moved-here-requires
-forwarding_move-moved-here-requires t c =
-    let a = c.args in
-    let here = c.loop-here.here in
-    let standing = c.loop-here.invariant.standing in
-    let lent : length a.trace.now < 2 ^ 64 = omega arith in
-    let trace : length c.loop-here.trace < 2 ^ 64 = omega (arith, c.loop-here.invariant.same_length, lent) in
-    record {
-      some = omega (arith, c.if-here-eq0.false);
-      counts = omega (arith, standing.room, c.if-here-eq0.false, trace);
-    }
 
 pub forwarding_move-loop-here-smaller : goal.forwarding_move-loop-here-smaller
 unfolding moved_on

@@ -9,10 +9,6 @@ pub returns-then-node-question : goal.returns-then-node-question
 returns-then-node-question c on =
     step_delivered on c.args.question c.args.node.0 _ c.if-node-question.true
 
-pub look_up-requires : goal.look_up-requires
-look_up-requires c =
-    grounds.look_up_at c.requires.ground
-
 pub returns-in_default : goal.returns-in_default
 returns-in_default c on =
     step_lost (rows_on on) (tables_on on) c.args.question c.args.node.0 c.if-node-question.false
