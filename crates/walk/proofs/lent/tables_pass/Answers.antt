@@ -8,12 +8,10 @@ returns-then-not-routing_passes c = routes_fail _ _ _ _ c.routing_passes.ensures
 
 pub returns-then-not-interfaces_pass : goal.returns-then-not-interfaces_pass
 returns-then-not-interfaces_pass c =
-    let lent : LentTables = record { routing = c.args.routing.now; forwarding = c.args.forwarding.now; backwarding = c.args.backwarding.now } in
-    forwards_fail _ _ _ lent c.routing_passes.ensures c.if-not-routing_passes.false
+    forwards_fail _ _ _ _ c.routing_passes.ensures c.if-not-routing_passes.false
     c.interfaces_pass.ensures c.if-not-interfaces_pass.true
 
 pub returns : goal.returns
 returns c =
-    let lent : LentTables = record { routing = c.args.routing.now; forwarding = c.args.forwarding.now; backwarding = c.args.backwarding.now } in
-    backwards_decide _ _ _ lent c.routing_passes.ensures c.if-not-routing_passes.false
+    backwards_decide _ _ _ _ c.routing_passes.ensures c.if-not-routing_passes.false
     c.interfaces_pass.ensures c.if-not-interfaces_pass.false c.interfaces_pass-2.ensures
