@@ -20,11 +20,11 @@ step_around-requires c =
 
 pub returns-then-blocked : goal.returns-then-blocked
 returns-then-blocked c on =
-    let leads : grounds.Leads on c.args.node.0 c.args.entry c.in-Next.next c.in-Next.f = grounds.leads on _ _ c.look_up.ensures _ _ c.in-Next.is in
+    let leads = grounds.leads on _ _ c.look_up.ensures _ _ c.in-Next.is in
     c.step_around.ensures on leads.leaves
     ∙ step_turns on _ _ c.if-node-question.false _ _ leads.entry (sym c.blocked.ensures ∙ c.if-blocked.true)
 
 pub returns : goal.returns
 returns c on =
-    let leads : grounds.Leads on c.args.node.0 c.args.entry c.in-Next.next c.in-Next.f = grounds.leads on _ _ c.look_up.ensures _ _ c.in-Next.is in
+    let leads = grounds.leads on _ _ c.look_up.ensures _ _ c.in-Next.is in
     step_crosses on _ _ c.if-node-question.false _ _ leads.entry _ leads.enters (sym c.blocked.ensures ∙ c.if-blocked.false)
