@@ -1,5 +1,4 @@
 -- The three tables in the order of the definition: the first that does not pass decides, and else the last.
-use Rattle.tables.specs.Lent.{LentTables}
 use Rattle.walk.proofs.Below.{routes_fail, forwards_fail, backwards_decide}
 use Rattle.walk.proofs.lent.tables_pass.Goals as goal
 

@@ -1,12 +1,7 @@
 -- 14 by the three lengths, then 16 by the three tables: the two tests of the definition. Where the lengths do, all is known that the
 -- check of the entries asks.
-use mathlib.Core.Bool.{false}
-use mathlib.Core.Path.{◌≡◌, sym, ◌∙◌}
-use lib.ListN.{length}
-use Rattle.net.specs.Rows.{Rows}
-use Rattle.tables.specs.Lent.{LentTables, tables_short}
+use mathlib.Core.Path.{sym, ◌∙◌}
 use Rattle.tables.proofs.Lengths.{tables_long}
-use Rattle.walk.specs.Lent.{tables_pass}
 use Rattle.walk.proofs.Hops.{paired}
 use Rattle.walk.proofs.Verdicts.{lengths_refused, entries_refused, tables_taken}
 use Rattle.walk.proofs.lent.tables_verdict.Goals as goal

@@ -1,4 +1,4 @@
-use Rattle.std.proofs.Common.{ℕ, ◌≡◌, ◌+◌, ◌*◌, ◌<◌, List, refl, sym, ◌∙◌, arith}
+use Rattle.std.proofs.Common.{ℕ, ◌≡◌, ◌+◌, ◌<◌, List, refl, sym, ◌∙◌, arith}
 use lib.ListN.{set, length-set}
 use Rattle.graph.specs.Walk.{delivered, dropped, exhausted}
 use Rattle.net.specs.declared.interface.Node.{Node}
@@ -49,8 +49,9 @@ backwarding_move-returns-in_default t c on leaves =
 
 pub backwarding_move-returns-then-blocked : goal.backwarding_move-returns-then-blocked
 backwarding_move-returns-then-blocked t c on leaves =
+    let leads = grounds.leads on _ _ c.look_up.ensures _ _ c.in-Next.is in
     went_ends _ _ _ dropped _ dropped_number
-    (turned_drops on _ _ _ leaves _ (grounds.leads on _ _ c.look_up.ensures _ _ c.in-Next.is).entry
+    (turned_drops on _ _ _ leaves _ leads.entry
     (sym c.blocked.ensures ∙ c.if-blocked.true))
 
 pub backwarding_move-overflow_cast-trace : goal.backwarding_move-overflow_cast-trace
@@ -79,11 +80,11 @@ backwarding_move-forwarding_move-requires t c =
 
 pub backwarding_move-returns : goal.backwarding_move-returns
 backwarding_move-returns t c on leaves =
-    let enters = (grounds.leads on _ _ c.look_up.ensures _ _ c.in-Next.is).enters in
+    let leads = grounds.leads on _ _ c.look_up.ensures _ _ c.in-Next.is in
     went_over on c.args.question c.args.packet c.moved.result c.in-Next.node c.in-Next.g.0
-    (turned_on on _ _ _ leaves _ (grounds.leads on _ _ c.look_up.ensures _ _ c.in-Next.is).entry _ enters
+    (turned_on on _ _ _ leaves _ leads.entry _ leads.enters
     (sym c.blocked.ensures ∙ c.if-blocked.false))
-    c.moved.ensures enters (omega (arith, c.requires.standing.room, c.requires.some))
+    c.moved.ensures leads.enters (omega (arith, c.requires.standing.room, c.requires.some))
     (c.forwarding_move.ensures on)
 
 pub forwarding_move-returns-then-here-eq0 : goal.forwarding_move-returns-then-here-eq0
@@ -110,12 +111,13 @@ forwarding_move-backwarding_move-requires t c =
 
 pub forwarding_move-returns-then-blocked : goal.forwarding_move-returns-then-blocked
 forwarding_move-returns-then-blocked t c on =
+    let leads = grounds.leads on _ _ c.look_up.ensures _ _ c.in-Next.is in
     c.loop-here.invariant.whole on _ _
     (went_same _ _ _
     (course_turns on c.args.question c.loop-here.here c.loop-here-test.true c.if-here-eq0.false c.in-Next.f.0
-    (grounds.leads on _ _ c.look_up.ensures _ _ c.in-Next.is).entry
+    leads.entry
     (sym c.blocked.ensures ∙ c.if-blocked.true))
-    (c.backwarding_move.ensures on (grounds.leads on _ _ c.look_up.ensures _ _ c.in-Next.is).leaves))
+    (c.backwarding_move.ensures on leads.leaves))
 
 pub forwarding_move-overflow_cast-trace : goal.forwarding_move-overflow_cast-trace
 forwarding_move-overflow_cast-trace t c = grounds.next_fits c.loop-here.invariant.standing.ground _ _ c.look_up.ensures c.in-Next.is
@@ -152,13 +154,13 @@ forwarding_move-loop-here-preserved t c =
       same_length = length-set c.loop-here.trace (here.hops + 1) c.in-Next.node.0 ∙ so_far.same_length;
       fewer = rw packet (omega (arith, so_far.fewer));
       whole = λ on r after went.
-          let enters = (grounds.leads on _ _ c.look_up.ensures _ _ c.in-Next.is).enters in
+          let leads = grounds.leads on _ _ c.look_up.ensures _ _ c.in-Next.is in
           so_far.whole on r after
           (went_over on c.args.question here c.moved-here.result c.in-Next.node c.in-Next.f.0
-          (course_on on _ _ c.loop-here-test.true c.if-here-eq0.false _ (grounds.leads on _ _ c.look_up.ensures _ _ c.in-Next.is).entry
-          _ enters
+          (course_on on _ _ c.loop-here-test.true c.if-here-eq0.false _ leads.entry
+          _ leads.enters
           (sym c.blocked.ensures ∙ c.if-blocked.false))
-          packet enters (omega (arith, standing.room, c.if-here-eq0.false)) went);
+          packet leads.enters (omega (arith, standing.room, c.if-here-eq0.false)) went);
     }
 
 pub forwarding_move-returns : goal.forwarding_move-returns

@@ -3,7 +3,6 @@ use native.Mathlib.Omega.{arith}
 use Rattle.graph.specs.Walk.{walk_of}
 use Rattle.walk.specs.Lent.{tables_for}
 use Rattle.walk.specs.Walk.{course_of}
-use Rattle.walk.specs.inner.Ground.{Ground}
 use Rattle.walk.specs.inner.Moves.{course_from, lost_ending}
 use Rattle.walk.proofs.Courses.{went_from}
 use Rattle.walk.proofs.moves.walk_from.Goals as goal
@@ -11,6 +10,5 @@ use Rattle.walk.proofs.moves.walk_from.Goals as goal
 pub returns : goal.returns
 unfolding course_from course_of lost_ending tables_for walk_of
 returns c =
-    let ground : Ground c.args.n c.args.low.now c.args.high.now c.args.forwarding.now c.args.backwarding.now = record { weight = c.args.weight.now; routing = c.args.routing.now; ready = c.requires.ready } in
     went_from _ c.args.source.0 c.args.trace.now (omega (arith, c.requires.room))
-    (c.forwarding_move.ensures (ground))
+    (c.forwarding_move.ensures (record { weight = c.args.weight.now; routing = c.args.routing.now; ready = c.requires.ready }))

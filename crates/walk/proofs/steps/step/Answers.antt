@@ -6,7 +6,6 @@ use native.Mathlib.Omega.{arith}
 use lib.ListN.{length}
 use mir.Syntax.{w64}
 use mir.Val.{Fits}
-use mathlib.Core.List.{List}
 use Rattle.net.specs.declared.interface.Interface.{Interface}
 use Rattle.net.specs.declared.interface.Node.{Node}
 use Rattle.net.specs.Refusals.{accepted}
@@ -33,6 +32,7 @@ use Rattle.walk.proofs.steps.step.Goals as goal
 module _ (R : Rows) (T : LentTables) (asked : Asked) (question : Question) {verdict : Verdict} {number : ℕ}
     (judged : verdict ≡ lent_verdict R T number) (numbered : number ≡ step_number R.nodes (length R.low) asked question)
     (free : verdict.number ≡ accepted) where
+  -- so the question, the network and the tables are as they are asked for
   taken : step_number R.nodes (length R.low) asked question ≡ accepted
   taken = sym numbered ∙ question_taken R T number judged free
 
@@ -45,6 +45,7 @@ module _ (R : Rows) (T : LentTables) (asked : Asked) (question : Question) {verd
   long : LongEnough R.nodes (length R.low) T
   long = lent_long R T number judged free
 
+  -- what the step is lent belongs to this network and these tables
   abbrev ground : Ground R.nodes R.low R.high T.forwarding T.backwarding
   ground = record { weight = R.weight; routing = T.routing; ready = record { network = network; long = long } }
 
@@ -53,33 +54,35 @@ module _ (R : Rows) (T : LentTables) (asked : Asked) (question : Question) {verd
     node_below : node.0 < R.nodes
     node_below = asked_start _ _ _ question taken _ is
 
-    routing_row : node.0 * R.nodes + R.nodes ≤ length T.routing
-    routing_row = row_within _ _ node.0 _ node_below long.for_routing
+    start_row : node.0 * R.nodes + R.nodes ≤ length T.routing
+    start_row = row_within _ _ node.0 _ node_below long.for_routing
 
     routing_within : node.0 * R.nodes + question.destination.0 < length T.routing
-    routing_within = place_within _ _ _ _ routing_row destination
+    routing_within = place_within _ _ _ _ start_row destination
 
+    -- the step at the start node may be asked
     placed_start : Placed R.nodes R.low R.high T.forwarding T.backwarding question node.0
     placed_start = record { ground = ground; destination = destination; node = node_below }
 
     module _ (table : length T.routing < 2 ^ 64) where
       routing_row_fits : Fits w64 (node.0 * R.nodes)
-      routing_row_fits = row_fits _ _ _ routing_row table
+      routing_row_fits = row_fits _ _ _ start_row table
 
       routing_place_fits : Fits w64 (node.0 * R.nodes + question.destination.0)
-      routing_place_fits = place_fits _ _ _ _ routing_row destination table
+      routing_place_fits = place_fits _ _ _ _ start_row destination table
 
   -- asked on arrival over an interface, whose row is in the forwarding table
   module _ {h : Interface} (is : asked ≡ Arrival h) where
     interface_below : h.0 < 2 * length R.low
     interface_below = asked_arrival _ _ _ question taken _ is
 
-    row : h.0 * R.nodes + R.nodes ≤ length T.forwarding
-    row = forwarding_row ground h.0 interface_below
+    arrival_row : h.0 * R.nodes + R.nodes ≤ length T.forwarding
+    arrival_row = forwarding_row ground h.0 interface_below
 
     forwarding_within : h.0 * R.nodes + question.destination.0 < length T.forwarding
-    forwarding_within = place_within _ _ _ _ row destination
+    forwarding_within = place_within _ _ _ _ arrival_row destination
 
+    -- the step at the head of the interface may be asked
     placed_arrival : {i : ℕ} → i ≡ head_of R.low R.high h.0
         → Placed R.nodes R.low R.high T.forwarding T.backwarding question i
     placed_arrival told =
@@ -91,11 +94,12 @@ module _ (R : Rows) (T : LentTables) (asked : Asked) (question : Question) {verd
 
     module _ (table : length T.forwarding < 2 ^ 64) where
       forwarding_row_fits : Fits w64 (h.0 * R.nodes)
-      forwarding_row_fits = row_fits _ _ _ row table
+      forwarding_row_fits = row_fits _ _ _ arrival_row table
 
       forwarding_place_fits : Fits w64 (h.0 * R.nodes + question.destination.0)
-      forwarding_place_fits = place_fits _ _ _ _ row destination table
+      forwarding_place_fits = place_fits _ _ _ _ arrival_row destination table
 
+  -- the step that is made is the answer
   step_made : step_of R T asked question ≡ step_answer R T asked question
   step_made = step_taken R T asked question (judged ∙ ap (lent_verdict R T) numbered) free
 

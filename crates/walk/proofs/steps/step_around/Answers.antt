@@ -1,7 +1,5 @@
 -- Past the failed link the backwarding entry is looked up: nothing there, or a link that has failed too, is dropped.
-use Prim.Native.Nat.{◌+◌, ◌*◌}
 use mathlib.Core.Path.{sym, ◌∙◌}
-use lib.ListN.{get_or}
 use Rattle.walk.proofs.Grounds as grounds
 use Rattle.walk.proofs.Stepping.{around_absent, around_drops, around_crosses}
 use Rattle.walk.proofs.steps.step_around.Goals as goal

@@ -35,18 +35,29 @@ returns-then-failed-ne-NONE c =
 
 pub returns-then-bad_start : goal.returns-then-bad_start
 returns-then-bad_start c =
-    rw (past_failure c.args.n c.args.links c.args.asked c.args.question
-    (sym c.bad_interface.ensures ∙ c.if-bad_interface.false) (sym c.failure_number-failed.ensures ∙ c.if-failed-ne-NONE.false),
-    ← c.bad_start.ensures, c.if-bad_start.true)
+    rw (
+      past_failure c.args.n c.args.links c.args.asked c.args.question
+          (sym c.bad_interface.ensures ∙ c.if-bad_interface.false) (sym c.failure_number-failed.ensures ∙ c.if-failed-ne-NONE.false),
+      ← c.bad_start.ensures,
+      c.if-bad_start.true,
+    )
 
 pub returns-then-n-question : goal.returns-then-n-question
 returns-then-n-question c =
-    rw (past_failure c.args.n c.args.links c.args.asked c.args.question
-    (sym c.bad_interface.ensures ∙ c.if-bad_interface.false) (sym c.failure_number-failed.ensures ∙ c.if-failed-ne-NONE.false),
-    ← c.bad_start.ensures, c.if-bad_start.false, le-leb _ _ c.if-n-question.true)
+    rw (
+      past_failure c.args.n c.args.links c.args.asked c.args.question
+          (sym c.bad_interface.ensures ∙ c.if-bad_interface.false) (sym c.failure_number-failed.ensures ∙ c.if-failed-ne-NONE.false),
+      ← c.bad_start.ensures,
+      c.if-bad_start.false,
+      le-leb _ _ c.if-n-question.true,
+    )
 
 pub returns : goal.returns
 returns c =
-    rw (past_failure c.args.n c.args.links c.args.asked c.args.question
-    (sym c.bad_interface.ensures ∙ c.if-bad_interface.false) (sym c.failure_number-failed.ensures ∙ c.if-failed-ne-NONE.false),
-    ← c.bad_start.ensures, c.if-bad_start.false, lt-leb _ _ c.if-n-question.false)
+    rw (
+      past_failure c.args.n c.args.links c.args.asked c.args.question
+          (sym c.bad_interface.ensures ∙ c.if-bad_interface.false) (sym c.failure_number-failed.ensures ∙ c.if-failed-ne-NONE.false),
+      ← c.bad_start.ensures,
+      c.if-bad_start.false,
+      lt-leb _ _ c.if-n-question.false,
+    )
