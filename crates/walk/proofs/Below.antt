@@ -3,7 +3,7 @@
 -- the other.
 use Prim.Native.Nat.{ℕ, zero, suc, ◌+◌, ◌*◌, ◌-◌, ◌<◌, ◌≤◌}
 use mathlib.Core.Bool.{Bool, true, false}
-use mathlib.Core.Path.{◌≡◌, refl, sym, ap₂}
+use mathlib.Core.Path.{◌≡◌, refl, sym, ap₂, ◌∙◌}
 use mathlib.Core.List.{List}
 use native.Mathlib.Nat.{mul-le-mul_right}
 use native.Mathlib.Numerals.{add-one, add-one-le}
@@ -87,6 +87,23 @@ module _ (low high : List ℕ) where
     row_as_part row i same e =
         let size : row * n + n - row * n ≡ n = omega arith in
         sym (rw (same, size) at e)
+
+    -- the rows passed: none yet, one row more, the first that fails, and all
+    pub no_rows : (rows : ℕ) → RowsPassed n low high deciding table rows 0
+    no_rows rows = record { within = omega arith; so_far = below_none _ }
+
+    module _ (row i : ℕ) {answer : Bool} (decides : i ≡ deciding row)
+        (told : answer ≡ row_passes low high i (take (row * n + n - row * n) (drop (row * n) table))) (rows : ℕ) (h : row < rows) where
+      pub row_more : answer ≡ true → RowsPassed n low high deciding table rows row → RowsPassed n low high deciding table rows (row + 1)
+      row_more e passed =
+          record { within = omega arith; so_far = below_one_more _ row passed.so_far (row_as_part row i decides told ∙ e) }
+
+      pub row_fails : answer ≡ false → rows * n ≤ length table → false ≡ table_passes n low high rows deciding table
+      row_fails e long = sym (table_is rows long ∙ below_fails _ rows row h (row_as_part row i decides told ∙ e))
+
+    pub all_rows : (rows row : ℕ) → rows ≤ row → RowsPassed n low high deciding table rows row → rows * n ≤ length table
+        → true ≡ table_passes n low high rows deciding table
+    all_rows rows row end passed long = sym (table_is rows long ∙ below_all _ rows row passed.within end passed.so_far)
 
 -- the three tables: what is known where each is checked, and what the answers come to in the order of the code
 module _ (n : ℕ) (low high : List ℕ) (T : LentTables) where

@@ -6,7 +6,7 @@ use mathlib.Core.Logic.{◌≢◌}
 use mathlib.Core.List.{List}
 use native.Mathlib.Omega.{arith}
 use lib.ListN.{length, get_or}
-use mir.Syntax.{w64}
+use mir.Syntax.{w8, w64}
 use mir.Val.{Fits}
 use Rattle.graph.specs.Network.{Network, tail, head}
 use Rattle.graph.specs.Entries.{onward}
@@ -100,3 +100,21 @@ module _ {n : ℕ} {low high forwarding backwarding : List ℕ} (on : Ground n l
           node = omega (arith, enters, enters_node f.0 below);
           row = forwarding_row f.0 below;
         }
+
+    -- where it leads on: the next node can be stored as a byte, and the entry that stands there is in the forwarding table
+    module _ {v : Node} {f : Interface} (next : r ≡ Next v f) where
+      pub next_node_below : v.0 < n
+      next_node_below = (leads v f next).node
+
+      pub next_fits : Fits w8 v.0
+      next_fits = record { fits = omega (arith, next_node_below, few_nodes) }
+
+      pub next_place_within : {d : ℕ} → d < n → f.0 * n + d < length forwarding
+      next_place_within {d} within = place_within f.0 n d (length forwarding) (leads v f next).row within
+
+      module _ (table : length forwarding < 2 ^ 64) where
+        pub next_row_fits : Fits w64 (f.0 * n)
+        next_row_fits = row_fits f.0 n (length forwarding) (leads v f next).row table
+
+        pub next_place_fits : {d : ℕ} → d < n → Fits w64 (f.0 * n + d)
+        next_place_fits {d} within = place_fits f.0 n d (length forwarding) (leads v f next).row within table

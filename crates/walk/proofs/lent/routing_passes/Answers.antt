@@ -1,58 +1,19 @@
-use Prim.Native.Nat.{ℕ, ◌+◌, ◌*◌, ◌≤◌}
-use mathlib.Core.Path.{◌≡◌, refl, sym, ◌∙◌}
-use native.Mathlib.Omega.{arith}
-use borrow.Author.Rules.{rules}
-use lib.ListN.{length}
-use Rattle.walk.proofs.Below.{row_test, table_is, row_within, row_as_part, below_none, below_one_more, below_fails, below_all}
+-- A row is decided at the node of its own number.
+use Prim.Native.Nat.{ℕ}
+use mathlib.Core.Path.{refl}
+use Rattle.walk.proofs.Below.{no_rows, row_more, row_fails, all_rows}
 use Rattle.walk.proofs.lent.routing_passes.Goals as goal
 
 pub loop-i-init : goal.loop-i-init
-loop-i-init c = record { within = search rules; so_far = below_none _ }
-
-pub overflow_mul-from : goal.overflow_mul-from
-overflow_mul-from c =
-    let in_table : let a = c.args in c.loop-i.i * a.n + a.n ≤ length a.table.now = row_within _ _ _ _ c.loop-i-test.true c.requires.room in
-    omega (arith, in_table)
-
-pub overflow_add-to : goal.overflow_add-to
-overflow_add-to c =
-    let in_table : let a = c.args in c.loop-i.i * a.n + a.n ≤ length a.table.now = row_within _ _ _ _ c.loop-i-test.true c.requires.room in
-    omega (arith, in_table)
-
-pub slice_bounds-row_passes-start : goal.slice_bounds-row_passes-start
-slice_bounds-row_passes-start c =
-    let in_table : let a = c.args in c.loop-i.i * a.n + a.n ≤ length a.table.now = row_within _ _ _ _ c.loop-i-test.true c.requires.room in
-    omega (arith, in_table)
-
-pub slice_bounds-row_passes-end : goal.slice_bounds-row_passes-end
-slice_bounds-row_passes-end c =
-    let in_table : let a = c.args in c.loop-i.i * a.n + a.n ≤ length a.table.now = row_within _ _ _ _ c.loop-i-test.true c.requires.room in
-    omega (arith, in_table)
-
-pub row_passes-requires : goal.row_passes-requires
-row_passes-requires c = c.requires.paired
+loop-i-init c = no_rows _ _ _ _ _ _
 
 pub returns-then-not-row_passes : goal.returns-then-not-row_passes
 returns-then-not-row_passes c =
-    let row_told : let a = c.args in
-    row_test a.n a.low.now a.high.now (λ (i : ℕ). i) a.table.now c.loop-i.i ≡ c.row_passes.result = let a = c.args in
-    row_as_part a.low.now a.high.now a.n (λ (i : ℕ). i) a.table.now c.loop-i.i _ refl c.row_passes.ensures in
-    sym (table_is _ _ _ _ _ _ c.requires.room
-    ∙ below_fails _ _ _ c.loop-i-test.true (row_told ∙ c.if-not-row_passes.true))
+    row_fails _ _ _ (λ (i : ℕ). i) _ _ _ refl c.row_passes.ensures _ c.loop-i-test.true c.if-not-row_passes.true c.requires.room
 
 pub loop-i-preserved : goal.loop-i-preserved
 loop-i-preserved c =
-    let row_told : let a = c.args in
-    row_test a.n a.low.now a.high.now (λ (i : ℕ). i) a.table.now c.loop-i.i ≡ c.row_passes.result = let a = c.args in
-    row_as_part a.low.now a.high.now a.n (λ (i : ℕ). i) a.table.now c.loop-i.i _ refl c.row_passes.ensures in
-    let at = c.loop-i in
-    record {
-      within = omega arith;
-      so_far = below_one_more _ _ at.invariant.so_far (row_told ∙ c.if-not-row_passes.false);
-    }
+    row_more _ _ _ (λ (i : ℕ). i) _ _ _ refl c.row_passes.ensures _ c.loop-i-test.true c.if-not-row_passes.false c.loop-i.invariant
 
 pub returns : goal.returns
-returns c =
-    let at = c.loop-i in
-    sym (table_is _ _ _ _ _ _ c.requires.room
-    ∙ below_all _ _ _ at.invariant.within c.loop-i-test.false at.invariant.so_far)
+returns c = all_rows _ _ _ _ _ _ _ c.loop-i-test.false c.loop-i.invariant c.requires.room

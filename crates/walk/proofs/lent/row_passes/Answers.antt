@@ -1,7 +1,8 @@
-use mathlib.Core.Path.{◌≡◌, sym, ◌∙◌}
+-- A byte's answer makes the bytes passed one more, or the row's answer.
+use mathlib.Core.Path.{sym, ◌∙◌}
 use native.Mathlib.Omega.{arith}
 use borrow.Author.Rules.{rules}
-use Rattle.walk.proofs.Below.{byte_test, row_is, below_none, below_one_more, below_fails, below_all}
+use Rattle.walk.proofs.Below.{row_is, below_none, below_one_more, below_fails, below_all}
 use Rattle.walk.proofs.lent.row_passes.Goals as goal
 
 pub loop-d-init : goal.loop-d-init
@@ -9,19 +10,14 @@ loop-d-init c = record { within = search rules; so_far = below_none _ }
 
 pub returns-then-not-byte_passes : goal.returns-then-not-byte_passes
 returns-then-not-byte_passes c =
-    let byte-told : let a = c.args in
-    byte_test a.low.now a.high.now a.node.0 a.row.now c.loop-d.d ≡ c.byte_passes.result = sym c.byte_passes.ensures in
     sym (row_is _ _ _ _
-    ∙ below_fails _ _ _ c.loop-d-test.true (byte-told ∙ c.if-not-byte_passes.true))
+    ∙ below_fails _ _ _ c.loop-d-test.true (sym c.byte_passes.ensures ∙ c.if-not-byte_passes.true))
 
 pub loop-d-preserved : goal.loop-d-preserved
 loop-d-preserved c =
-    let byte-told : let a = c.args in
-    byte_test a.low.now a.high.now a.node.0 a.row.now c.loop-d.d ≡ c.byte_passes.result = sym c.byte_passes.ensures in
-    let at = c.loop-d in
     record {
       within = omega arith;
-      so_far = below_one_more _ _ at.invariant.so_far (byte-told ∙ c.if-not-byte_passes.false);
+      so_far = below_one_more _ _ c.loop-d.invariant.so_far (sym c.byte_passes.ensures ∙ c.if-not-byte_passes.false);
     }
 
 pub returns : goal.returns

@@ -1,28 +1,16 @@
 -- The three tables in the order of the definition: the first that does not pass decides, and else the last.
-use Rattle.tables.specs.Lent.{LentTables}
-use Rattle.walk.proofs.Below.{routes_ready, forwards_ready, backwards_ready, routes_fail, forwards_fail, backwards_decide}
+use Rattle.walk.proofs.Below.{routes_fail, forwards_fail, backwards_decide}
 use Rattle.walk.proofs.lent.tables_pass.Goals as goal
-
-pub routing_passes-requires : goal.routing_passes-requires
-routing_passes-requires c = routes_ready _ _ _ _ c.requires
 
 pub returns-then-not-routing_passes : goal.returns-then-not-routing_passes
 returns-then-not-routing_passes c = routes_fail _ _ _ _ c.routing_passes.ensures c.if-not-routing_passes.true
 
-pub interfaces_pass-requires : goal.interfaces_pass-requires
-interfaces_pass-requires c = forwards_ready _ _ _ _ c.requires
-
 pub returns-then-not-interfaces_pass : goal.returns-then-not-interfaces_pass
 returns-then-not-interfaces_pass c =
-    let lent : LentTables = record { routing = c.args.routing.now; forwarding = c.args.forwarding.now; backwarding = c.args.backwarding.now } in
-    forwards_fail _ _ _ lent c.routing_passes.ensures c.if-not-routing_passes.false
+    forwards_fail _ _ _ _ c.routing_passes.ensures c.if-not-routing_passes.false
     c.interfaces_pass.ensures c.if-not-interfaces_pass.true
-
-pub interfaces_pass-requires-2 : goal.interfaces_pass-requires-2
-interfaces_pass-requires-2 c = backwards_ready _ _ _ _ c.requires
 
 pub returns : goal.returns
 returns c =
-    let lent : LentTables = record { routing = c.args.routing.now; forwarding = c.args.forwarding.now; backwarding = c.args.backwarding.now } in
-    backwards_decide _ _ _ lent c.routing_passes.ensures c.if-not-routing_passes.false
+    backwards_decide _ _ _ _ c.routing_passes.ensures c.if-not-routing_passes.false
     c.interfaces_pass.ensures c.if-not-interfaces_pass.false c.interfaces_pass-2.ensures

@@ -1,12 +1,7 @@
 -- 14 by the three lengths, then 16 by the three tables: the two tests of the definition. Where the lengths do, all is known that the
 -- check of the entries asks.
-use mathlib.Core.Bool.{false}
-use mathlib.Core.Path.{◌≡◌, sym, ◌∙◌}
-use lib.ListN.{length}
-use Rattle.net.specs.Rows.{Rows}
-use Rattle.tables.specs.Lent.{LentTables, tables_short}
+use mathlib.Core.Path.{sym, ◌∙◌}
 use Rattle.tables.proofs.Lengths.{tables_long}
-use Rattle.walk.specs.Lent.{tables_pass}
 use Rattle.walk.proofs.Hops.{paired}
 use Rattle.walk.proofs.Verdicts.{lengths_refused, entries_refused, tables_taken}
 use Rattle.walk.proofs.lent.tables_verdict.Goals as goal
@@ -17,33 +12,14 @@ returns-then-tables_short c =
 
 pub tables_pass-requires : goal.tables_pass-requires
 tables_pass-requires c =
-    let network : Rows = let a = c.args in
-    record { nodes = a.n; low = a.low.now; high = a.high.now; weight = a.weight.now } in
-    let lent : LentTables = let a = c.args in
-    record { routing = a.routing.now; forwarding = a.forwarding.now; backwarding = a.backwarding.now } in
-    let long : tables_short (network).nodes (length (network).low) (lent) ≡ false = sym c.tables_short.ensures ∙ c.if-tables_short.false in
-    record { paired = paired (network) c.requires; long = tables_long (long) }
+    record { paired = paired _ c.requires; long = tables_long (sym c.tables_short.ensures ∙ c.if-tables_short.false) }
 
 pub returns-then-not-tables_pass : goal.returns-then-not-tables_pass
 returns-then-not-tables_pass c =
-    let network : Rows = let a = c.args in
-    record { nodes = a.n; low = a.low.now; high = a.high.now; weight = a.weight.now } in
-    let lent : LentTables = let a = c.args in
-    record { routing = a.routing.now; forwarding = a.forwarding.now; backwarding = a.backwarding.now } in
-    let long : tables_short (network).nodes (length (network).low) (lent) ≡ false = sym c.tables_short.ensures ∙ c.if-tables_short.false in
-    let entries-told : let R = network in
-    tables_pass R.nodes R.low R.high (lent) ≡ c.tables_pass.result = sym c.tables_pass.ensures in
     c.unplaced-then-not-tables_pass.ensures
-    ∙ entries_refused _ _ (long) (entries-told ∙ c.if-not-tables_pass.true)
+    ∙ entries_refused _ _ (sym c.tables_short.ensures ∙ c.if-tables_short.false) (sym c.tables_pass.ensures ∙ c.if-not-tables_pass.true)
 
 pub returns : goal.returns
 returns c =
-    let network : Rows = let a = c.args in
-    record { nodes = a.n; low = a.low.now; high = a.high.now; weight = a.weight.now } in
-    let lent : LentTables = let a = c.args in
-    record { routing = a.routing.now; forwarding = a.forwarding.now; backwarding = a.backwarding.now } in
-    let long : tables_short (network).nodes (length (network).low) (lent) ≡ false = sym c.tables_short.ensures ∙ c.if-tables_short.false in
-    let entries-told : let R = network in
-    tables_pass R.nodes R.low R.high (lent) ≡ c.tables_pass.result = sym c.tables_pass.ensures in
     c.unplaced-2.ensures
-    ∙ tables_taken _ _ (long) (entries-told ∙ c.if-not-tables_pass.false)
+    ∙ tables_taken _ _ (sym c.tables_short.ensures ∙ c.if-tables_short.false) (sym c.tables_pass.ensures ∙ c.if-not-tables_pass.false)

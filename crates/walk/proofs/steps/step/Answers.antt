@@ -4,209 +4,149 @@ use Prim.Native.Nat.{ℕ, ◌+◌, ◌*◌, ◌^◌, ◌<◌, ◌≤◌}
 use mathlib.Core.Path.{◌≡◌, sym, ap, ◌∙◌}
 use native.Mathlib.Omega.{arith}
 use lib.ListN.{length}
-use mathlib.Core.List.{List}
+use mir.Syntax.{w64}
+use mir.Val.{Fits}
 use Rattle.net.specs.declared.interface.Interface.{Interface}
 use Rattle.net.specs.declared.interface.Node.{Node}
-use Rattle.graph.specs.Network.{head}
 use Rattle.net.specs.Refusals.{accepted}
-use Rattle.net.specs.Rows.{Rows, network_of}
+use Rattle.net.specs.Rows.{Rows, head_of}
 use Rattle.net.specs.Check.{Accepted}
 use Rattle.net.proofs.Rows.{head_of_lem}
 use Rattle.tables.specs.Lent.{LentTables, LongEnough}
 use Rattle.walk.specs.Lent.{lent_verdict}
-use Rattle.walk.specs.Step.{step_number}
+use Rattle.walk.specs.Step.{step_number, step_of, step_answer}
 use Rattle.walk.specs.inner.Ground.{Ground}
+use Rattle.walk.specs.inner.Steps.{Placed}
 use Rattle.walk.specs.declared.question.Question.{Question}
 use Rattle.walk.specs.declared.steps.Asked.{Asked}
 use Rattle.walk.specs.declared.steps.Asked.TheVariants.{Start, Arrival}
 use Rattle.net.specs.declared.check.Verdict.{Verdict}
 use Rattle.walk.proofs.Asking.{asked_destination, asked_start, asked_arrival}
 use Rattle.walk.proofs.Below.{row_within}
-use Rattle.walk.proofs.Grounds.{row_fits, place_fits, place_within}
-use Rattle.walk.proofs.Hops.{head_below}
+use Rattle.walk.proofs.Grounds.{row_fits, place_fits, place_within, forwarding_row, enters_node}
 use Rattle.walk.proofs.Stepping.{start_steps, arrival_steps}
 use Rattle.walk.proofs.Verdicts.{lent_network, lent_long, question_taken, step_refused, step_taken}
 use Rattle.walk.proofs.steps.step.Goals as goal
 
--- what was lent, by the names of the definitions
-abbrev rows : ℕ → List ℕ → List ℕ → List ℕ → Rows
-rows n low high weight = record { nodes = n; low = low; high = high; weight = weight }
-
-abbrev tables : List ℕ → List ℕ → List ℕ → LentTables
-tables routing forwarding backwarding = record { routing = routing; forwarding = forwarding; backwarding = backwarding }
-
 -- the question has been judged, and nothing is refused
-module _ (R : Rows) (T : LentTables) (asked : Asked) (question : Question) (verdict : Verdict)
-    (judged : verdict ≡ lent_verdict R T (step_number R.nodes (length R.low) asked question)) (free : verdict.number ≡ accepted) where
-  long : LongEnough R.nodes (length R.low) T
-  long = lent_long R T _ judged free
-
+module _ (R : Rows) (T : LentTables) (asked : Asked) (question : Question) {verdict : Verdict} {number : ℕ}
+    (judged : verdict ≡ lent_verdict R T number) (numbered : number ≡ step_number R.nodes (length R.low) asked question)
+    (free : verdict.number ≡ accepted) where
+  -- so the question, the network and the tables are as they are asked for
   taken : step_number R.nodes (length R.low) asked question ≡ accepted
-  taken = question_taken R T _ judged free
+  taken = sym numbered ∙ question_taken R T number judged free
 
   destination : question.destination.0 < R.nodes
   destination = asked_destination _ _ _ question taken
 
   network : Accepted R
-  network = lent_network R T _ judged free
+  network = lent_network R T number judged free
 
+  long : LongEnough R.nodes (length R.low) T
+  long = lent_long R T number judged free
+
+  -- what the step is lent belongs to this network and these tables
   abbrev ground : Ground R.nodes R.low R.high T.forwarding T.backwarding
   ground = record { weight = R.weight; routing = T.routing; ready = record { network = network; long = long } }
 
-  -- asked at a start node
-  node_below : (node : Node) → asked ≡ Start node → node.0 < R.nodes
-  node_below node is = asked_start _ _ _ question taken _ is
+  -- asked at a start node, whose row is in the routing table
+  module _ {node : Node} (is : asked ≡ Start node) where
+    node_below : node.0 < R.nodes
+    node_below = asked_start _ _ _ question taken _ is
 
-  routing_row : (node : Node) → asked ≡ Start node → node.0 * R.nodes + R.nodes ≤ length T.routing
-  routing_row node is = row_within _ _ node.0 _ (node_below node is) long.for_routing
+    start_row : node.0 * R.nodes + R.nodes ≤ length T.routing
+    start_row = row_within _ _ node.0 _ node_below long.for_routing
 
-  -- asked on arrival
-  interface_below : (h : Interface) → asked ≡ Arrival h → h.0 < 2 * length R.low
-  interface_below h is = asked_arrival _ _ _ question taken _ is
+    routing_within : node.0 * R.nodes + question.destination.0 < length T.routing
+    routing_within = place_within _ _ _ _ start_row destination
 
-  forwarding_row : (h : Interface) → asked ≡ Arrival h → h.0 * R.nodes + R.nodes ≤ length T.forwarding
-  forwarding_row h is = row_within _ _ h.0 _ (interface_below h is) long.for_forwarding
+    -- the step at the start node may be asked
+    placed_start : Placed R.nodes R.low R.high T.forwarding T.backwarding question node.0
+    placed_start = record { ground = ground; destination = destination; node = node_below }
 
-  head_node : (h : Interface) → asked ≡ Arrival h → head (network_of R) h.0 < R.nodes
-  head_node h is = head_below _ network h.0 (interface_below h is)
+    module _ (table : length T.routing < 2 ^ 64) where
+      routing_row_fits : Fits w64 (node.0 * R.nodes)
+      routing_row_fits = row_fits _ _ _ start_row table
+
+      routing_place_fits : Fits w64 (node.0 * R.nodes + question.destination.0)
+      routing_place_fits = place_fits _ _ _ _ start_row destination table
+
+  -- asked on arrival over an interface, whose row is in the forwarding table
+  module _ {h : Interface} (is : asked ≡ Arrival h) where
+    interface_below : h.0 < 2 * length R.low
+    interface_below = asked_arrival _ _ _ question taken _ is
+
+    arrival_row : h.0 * R.nodes + R.nodes ≤ length T.forwarding
+    arrival_row = forwarding_row ground h.0 interface_below
+
+    forwarding_within : h.0 * R.nodes + question.destination.0 < length T.forwarding
+    forwarding_within = place_within _ _ _ _ arrival_row destination
+
+    -- the step at the head of the interface may be asked
+    placed_arrival : {i : ℕ} → i ≡ head_of R.low R.high h.0
+        → Placed R.nodes R.low R.high T.forwarding T.backwarding question i
+    placed_arrival told =
+        record {
+          ground = ground;
+          destination = destination;
+          node = rw (told ∙ sym (head_of_lem R h.0)) (enters_node ground h.0 interface_below);
+        }
+
+    module _ (table : length T.forwarding < 2 ^ 64) where
+      forwarding_row_fits : Fits w64 (h.0 * R.nodes)
+      forwarding_row_fits = row_fits _ _ _ arrival_row table
+
+      forwarding_place_fits : Fits w64 (h.0 * R.nodes + question.destination.0)
+      forwarding_place_fits = place_fits _ _ _ _ arrival_row destination table
+
+  -- the step that is made is the answer
+  step_made : step_of R T asked question ≡ step_answer R T asked question
+  step_made = step_taken R T asked question (judged ∙ ap (lent_verdict R T) numbered) free
 
 pub returns-then-verdict-ne-NONE : goal.returns-then-verdict-ne-NONE
 returns-then-verdict-ne-NONE c =
-    let a = c.args in
-    let R : Rows = rows a.n a.low.now a.high.now a.weight.now in
-    let T : LentTables = tables a.routing.now a.forwarding.now a.backwarding.now in
-    let question : Question = record { destination = a.destination; failure = a.failure } in
-    let verdict = c.lent_verdict-verdict.result in
-    let judged : verdict ≡ lent_verdict R T (step_number R.nodes (length R.low) a.asked question) =
-    c.lent_verdict-verdict.ensures ∙ ap (lent_verdict R T) c.step_number-number.ensures in
-    step_refused R T a.asked question judged c.if-verdict-ne-NONE.true
+    step_refused _ _ _ _ (c.lent_verdict-verdict.ensures ∙ ap (lent_verdict _ _) c.step_number-number.ensures) c.if-verdict-ne-NONE.true
 
 pub overflow_mul-i : goal.overflow_mul-i
 overflow_mul-i c =
-    let a = c.args in
-    let R : Rows = rows a.n a.low.now a.high.now a.weight.now in
-    let T : LentTables = tables a.routing.now a.forwarding.now a.backwarding.now in
-    let question : Question = record { destination = a.destination; failure = a.failure } in
-    let verdict = c.lent_verdict-verdict.result in
-    let judged : verdict ≡ lent_verdict R T (step_number R.nodes (length R.low) a.asked question) =
-    c.lent_verdict-verdict.ensures ∙ ap (lent_verdict R T) c.step_number-number.ensures in
-    let free = c.if-verdict-ne-NONE.false in
-    let table : length T.routing < 2 ^ 64 = omega arith in
-    row_fits _ _ _ (routing_row R T a.asked question verdict judged free c.in-Start.i c.in-Start.is) table
+    routing_row_fits _ _ _ _ c.lent_verdict-verdict.ensures c.step_number-number.ensures c.if-verdict-ne-NONE.false c.in-Start.is (omega arith)
 
 pub overflow_add-i : goal.overflow_add-i
 overflow_add-i c =
-    let a = c.args in
-    let R : Rows = rows a.n a.low.now a.high.now a.weight.now in
-    let T : LentTables = tables a.routing.now a.forwarding.now a.backwarding.now in
-    let question : Question = record { destination = a.destination; failure = a.failure } in
-    let verdict = c.lent_verdict-verdict.result in
-    let judged : verdict ≡ lent_verdict R T (step_number R.nodes (length R.low) a.asked question) =
-    c.lent_verdict-verdict.ensures ∙ ap (lent_verdict R T) c.step_number-number.ensures in
-    let free = c.if-verdict-ne-NONE.false in
-    let table : length T.routing < 2 ^ 64 = omega arith in
-    place_fits _ _ _ _ (routing_row R T a.asked question verdict judged free c.in-Start.i c.in-Start.is) (destination R T a.asked question verdict judged free) table
+    routing_place_fits _ _ _ _ c.lent_verdict-verdict.ensures c.step_number-number.ensures c.if-verdict-ne-NONE.false c.in-Start.is (omega arith)
 
 pub bounds-routing-i : goal.bounds-routing-i
 bounds-routing-i c =
-    let a = c.args in
-    let R : Rows = rows a.n a.low.now a.high.now a.weight.now in
-    let T : LentTables = tables a.routing.now a.forwarding.now a.backwarding.now in
-    let question : Question = record { destination = a.destination; failure = a.failure } in
-    let verdict = c.lent_verdict-verdict.result in
-    let judged : verdict ≡ lent_verdict R T (step_number R.nodes (length R.low) a.asked question) =
-    c.lent_verdict-verdict.ensures ∙ ap (lent_verdict R T) c.step_number-number.ensures in
-    let free = c.if-verdict-ne-NONE.false in
-    place_within _ _ _ _ (routing_row R T a.asked question verdict judged free c.in-Start.i c.in-Start.is) (destination R T a.asked question verdict judged free)
+    routing_within _ _ _ _ c.lent_verdict-verdict.ensures c.step_number-number.ensures c.if-verdict-ne-NONE.false c.in-Start.is
 
 pub step_at-requires : goal.step_at-requires
 step_at-requires c =
-    let a = c.args in
-    let R : Rows = rows a.n a.low.now a.high.now a.weight.now in
-    let T : LentTables = tables a.routing.now a.forwarding.now a.backwarding.now in
-    let question : Question = record { destination = a.destination; failure = a.failure } in
-    let verdict = c.lent_verdict-verdict.result in
-    let judged : verdict ≡ lent_verdict R T (step_number R.nodes (length R.low) a.asked question) =
-    c.lent_verdict-verdict.ensures ∙ ap (lent_verdict R T) c.step_number-number.ensures in
-    let free = c.if-verdict-ne-NONE.false in
-    record { ground = ground R T a.asked question verdict judged free; destination = destination R T a.asked question verdict judged free; node = node_below R T a.asked question verdict judged free c.in-Start.i c.in-Start.is }
+    placed_start _ _ _ _ c.lent_verdict-verdict.ensures c.step_number-number.ensures c.if-verdict-ne-NONE.false c.in-Start.is
 
 pub overflow_mul-h : goal.overflow_mul-h
 overflow_mul-h c =
-    let a = c.args in
-    let R : Rows = rows a.n a.low.now a.high.now a.weight.now in
-    let T : LentTables = tables a.routing.now a.forwarding.now a.backwarding.now in
-    let question : Question = record { destination = a.destination; failure = a.failure } in
-    let verdict = c.lent_verdict-verdict.result in
-    let judged : verdict ≡ lent_verdict R T (step_number R.nodes (length R.low) a.asked question) =
-    c.lent_verdict-verdict.ensures ∙ ap (lent_verdict R T) c.step_number-number.ensures in
-    let free = c.if-verdict-ne-NONE.false in
-    let table : length T.forwarding < 2 ^ 64 = omega arith in
-    row_fits _ _ _ (forwarding_row R T a.asked question verdict judged free c.in-Arrival.h c.in-Arrival.is) table
+    forwarding_row_fits _ _ _ _ c.lent_verdict-verdict.ensures c.step_number-number.ensures c.if-verdict-ne-NONE.false c.in-Arrival.is (omega arith)
 
 pub overflow_add-h : goal.overflow_add-h
 overflow_add-h c =
-    let a = c.args in
-    let R : Rows = rows a.n a.low.now a.high.now a.weight.now in
-    let T : LentTables = tables a.routing.now a.forwarding.now a.backwarding.now in
-    let question : Question = record { destination = a.destination; failure = a.failure } in
-    let verdict = c.lent_verdict-verdict.result in
-    let judged : verdict ≡ lent_verdict R T (step_number R.nodes (length R.low) a.asked question) =
-    c.lent_verdict-verdict.ensures ∙ ap (lent_verdict R T) c.step_number-number.ensures in
-    let free = c.if-verdict-ne-NONE.false in
-    let table : length T.forwarding < 2 ^ 64 = omega arith in
-    place_fits _ _ _ _ (forwarding_row R T a.asked question verdict judged free c.in-Arrival.h c.in-Arrival.is) (destination R T a.asked question verdict judged free) table
+    forwarding_place_fits _ _ _ _ c.lent_verdict-verdict.ensures c.step_number-number.ensures c.if-verdict-ne-NONE.false c.in-Arrival.is (omega arith)
 
 pub bounds-forwarding-h : goal.bounds-forwarding-h
 bounds-forwarding-h c =
-    let a = c.args in
-    let R : Rows = rows a.n a.low.now a.high.now a.weight.now in
-    let T : LentTables = tables a.routing.now a.forwarding.now a.backwarding.now in
-    let question : Question = record { destination = a.destination; failure = a.failure } in
-    let verdict = c.lent_verdict-verdict.result in
-    let judged : verdict ≡ lent_verdict R T (step_number R.nodes (length R.low) a.asked question) =
-    c.lent_verdict-verdict.ensures ∙ ap (lent_verdict R T) c.step_number-number.ensures in
-    let free = c.if-verdict-ne-NONE.false in
-    place_within _ _ _ _ (forwarding_row R T a.asked question verdict judged free c.in-Arrival.h c.in-Arrival.is) (destination R T a.asked question verdict judged free)
+    forwarding_within _ _ _ _ c.lent_verdict-verdict.ensures c.step_number-number.ensures c.if-verdict-ne-NONE.false c.in-Arrival.is
 
 pub step_at-requires-in-Arrival : goal.step_at-requires-in-Arrival
 step_at-requires-in-Arrival c =
-    let a = c.args in
-    let R : Rows = rows a.n a.low.now a.high.now a.weight.now in
-    let T : LentTables = tables a.routing.now a.forwarding.now a.backwarding.now in
-    let question : Question = record { destination = a.destination; failure = a.failure } in
-    let verdict = c.lent_verdict-verdict.result in
-    let judged : verdict ≡ lent_verdict R T (step_number R.nodes (length R.low) a.asked question) =
-    c.lent_verdict-verdict.ensures ∙ ap (lent_verdict R T) c.step_number-number.ensures in
-    let free = c.if-verdict-ne-NONE.false in
-    let is_head : c.head_of.result.0 ≡ head (network_of R) c.in-Arrival.h.0 = c.head_of.ensures ∙ sym (head_of_lem R c.in-Arrival.h.0) in
-    record { ground = ground R T a.asked question verdict judged free; destination = destination R T a.asked question verdict judged free; node = rw is_head (head_node R T a.asked question verdict judged free c.in-Arrival.h c.in-Arrival.is) }
+    placed_arrival _ _ _ _ c.lent_verdict-verdict.ensures c.step_number-number.ensures c.if-verdict-ne-NONE.false c.in-Arrival.is c.head_of.ensures
 
 pub returns-in-Start : goal.returns-in-Start
 returns-in-Start c =
-    let a = c.args in
-    let R : Rows = rows a.n a.low.now a.high.now a.weight.now in
-    let T : LentTables = tables a.routing.now a.forwarding.now a.backwarding.now in
-    let question : Question = record { destination = a.destination; failure = a.failure } in
-    let verdict = c.lent_verdict-verdict.result in
-    let judged : verdict ≡ lent_verdict R T (step_number R.nodes (length R.low) a.asked question) =
-    c.lent_verdict-verdict.ensures ∙ ap (lent_verdict R T) c.step_number-number.ensures in
-    let free = c.if-verdict-ne-NONE.false in
-    c.step_at.ensures (ground R T a.asked question verdict judged free)
-    ∙ start_steps R T _ question _ c.in-Start.is
-    ∙ step_taken R T _ question judged free
+    c.step_at.ensures (ground _ _ _ _ c.lent_verdict-verdict.ensures c.step_number-number.ensures c.if-verdict-ne-NONE.false)
+    ∙ start_steps _ _ _ _ _ c.in-Start.is
+    ∙ step_made _ _ _ _ c.lent_verdict-verdict.ensures c.step_number-number.ensures c.if-verdict-ne-NONE.false
 
 pub returns-in-Arrival : goal.returns-in-Arrival
 returns-in-Arrival c =
-    let a = c.args in
-    let R : Rows = rows a.n a.low.now a.high.now a.weight.now in
-    let T : LentTables = tables a.routing.now a.forwarding.now a.backwarding.now in
-    let question : Question = record { destination = a.destination; failure = a.failure } in
-    let verdict = c.lent_verdict-verdict.result in
-    let judged : verdict ≡ lent_verdict R T (step_number R.nodes (length R.low) a.asked question) =
-    c.lent_verdict-verdict.ensures ∙ ap (lent_verdict R T) c.step_number-number.ensures in
-    let free = c.if-verdict-ne-NONE.false in
-    let is_head : c.head_of.result.0 ≡ head (network_of R) c.in-Arrival.h.0 = c.head_of.ensures ∙ sym (head_of_lem R c.in-Arrival.h.0) in
-    c.step_at-in-Arrival.ensures (ground R T a.asked question verdict judged free)
-    ∙ arrival_steps R T _ question _ _ c.in-Arrival.is is_head
-    ∙ step_taken R T _ question judged free
+    c.step_at-in-Arrival.ensures (ground _ _ _ _ c.lent_verdict-verdict.ensures c.step_number-number.ensures c.if-verdict-ne-NONE.false)
+    ∙ arrival_steps _ _ _ _ _ _ c.in-Arrival.is (c.head_of.ensures ∙ sym (head_of_lem _ c.in-Arrival.h.0))
+    ∙ step_made _ _ _ _ c.lent_verdict-verdict.ensures c.step_number-number.ensures c.if-verdict-ne-NONE.false

@@ -9,10 +9,6 @@ pub returns-then-node-question : goal.returns-then-node-question
 returns-then-node-question c on =
     step_delivered on c.args.question c.args.node.0 _ c.if-node-question.true
 
-pub look_up-requires : goal.look_up-requires
-look_up-requires c =
-    grounds.look_up_at c.requires.ground
-
 pub returns-in_default : goal.returns-in_default
 returns-in_default c on =
     step_lost (rows_on on) (tables_on on) c.args.question c.args.node.0 c.if-node-question.false
@@ -20,24 +16,15 @@ returns-in_default c on =
 
 pub step_around-requires : goal.step_around-requires
 step_around-requires c =
-    let on = c.requires.ground in
-    let a = c.args in
-    let leads : grounds.Leads on a.node.0 a.entry c.in-Next.next c.in-Next.f = grounds.leads on _ _ c.look_up.ensures _ _ c.in-Next.is in
-    record { placed = c.requires; interface = leads.below }
+    record { placed = c.requires; interface = (grounds.leads c.requires.ground _ _ c.look_up.ensures _ _ c.in-Next.is).below }
 
 pub returns-then-blocked : goal.returns-then-blocked
 returns-then-blocked c on =
-    let a = c.args in
-    let leads : grounds.Leads on a.node.0 a.entry c.in-Next.next c.in-Next.f = grounds.leads on _ _ c.look_up.ensures _ _ c.in-Next.is in
+    let leads = grounds.leads on _ _ c.look_up.ensures _ _ c.in-Next.is in
     c.step_around.ensures on leads.leaves
-    ∙ step_turns on a.question a.node.0 c.if-node-question.false a.entry c.in-Next.f
-    leads.entry
-    (sym c.blocked.ensures ∙ c.if-blocked.true)
+    ∙ step_turns on _ _ c.if-node-question.false _ _ leads.entry (sym c.blocked.ensures ∙ c.if-blocked.true)
 
 pub returns : goal.returns
 returns c on =
-    let a = c.args in
-    let leads : grounds.Leads on a.node.0 a.entry c.in-Next.next c.in-Next.f = grounds.leads on _ _ c.look_up.ensures _ _ c.in-Next.is in
-    step_crosses on a.question a.node.0 c.if-node-question.false a.entry c.in-Next.f
-    leads.entry
-    c.in-Next.next leads.enters (sym c.blocked.ensures ∙ c.if-blocked.false)
+    let leads = grounds.leads on _ _ c.look_up.ensures _ _ c.in-Next.is in
+    step_crosses on _ _ c.if-node-question.false _ _ leads.entry _ leads.enters (sym c.blocked.ensures ∙ c.if-blocked.false)
