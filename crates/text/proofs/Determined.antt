@@ -1,7 +1,7 @@
 -- The clauses on writers and readers determine what they speak of, where the writer says what it holds and the reader what it has left: two
 -- outcomes that they allow from the same are equal. What they leave open: what a writer has got, and how much a reader has given, after an
 -- error; and the bytes past those that were read, which std's `read` may overwrite.
-use Rattle.std.proofs.Common.{◌≡◌, ℕ, ◌+◌, ◌<◌, ◌≤◌, Bool, true, false, List, ◌++◌, None, Some, Ok, refl, sym, ap, subst, ◌∙◌, length, take, drop, length-append, length-take-le, take_at, drop_at, arith}
+use Rattle.std.proofs.Common.{◌≡◌, ℕ, ◌+◌, ◌<◌, ◌≤◌, Bool, true, false, List, [], ◌++◌, None, Some, Ok, refl, sym, ap, subst, ◌∙◌, length, take, drop, length-append, length-take-le, take_at, drop_at, append-nil, arith}
 use Rattle.std.specs.declared.option.Option.{Option}
 use Rattle.std.specs.declared.io.traits.Read.{Ghosts}
 use Rattle.std.specs.Io.KnownBytes.{Appends, Consumes, IsAtEnd}
@@ -91,6 +91,18 @@ same_bytes given b c (Some r) (Some s) long p q =
     let both : b ++ r ≡ c ++ s = sym p ∙ q in
     (same_front b c r s long both, ap Some (same_rest b c r s long both))
 
+-- where fewer were left than were lent, all that there was stands at the front, and nothing is left
+stands : (given c : List ℕ) (s : Option (List ℕ)) → IsAtEnd s → TakesFewer (Some given) s c → (take (length given) c ≡ given) × (s ≡ Some [])
+stands given c None end q = absurd q.2
+stands given c (Some s) end q =
+    let n = q.0 in
+    let fewer : n < length c = q.1 in
+    let cut : length given ≡ n + length s = counts n given c s (omega arith) q.2 in
+    let none : length s ≡ 0 = ap length end in
+    let long : length given ≡ n = omega arith in
+    let front : given ≡ take n c = q.2 ∙ ap (λ l. take n c ++ l) end ∙ append-nil (take n c) in
+    (ap (λ k. take k c) long ∙ sym front, ap Some end)
+
 -- A contract is read as what it tells a caller (`Learnt`, from the source's `ensures`) of the inputs, the answer and the lent values at exit,
 -- under any lifetimes. What is lent to a function that reads: the reader and the bytes.
 abbrev pub Lent : RattleType → Type 0
@@ -124,8 +136,7 @@ read R laws reader dict a inputs given x y e f known long p q =
     same_answer given e.1.0.now f.1.0.now left_e left_f x y long (whole R laws reader dict a inputs given x e known p)
     (whole R laws reader dict a inputs given y f known q)
 
--- Where it answers true the bytes are the same too, and as much is left. Where it answers false nothing is left, and all that there was
--- stands at the front; the bytes past that are open.
+-- Where it answers true the bytes are the same too, and as much is left.
 pub read_filled : (R : RattleType) (laws : Laws R) (reader : Ghosts R.Denot) (dict : Dict) (a : Lfts 3) (inputs : Lent R) (given : List ℕ)
     (e f : Lent R) → reader.remaining inputs.0.now ≡ Some given → length e.1.0.now ≡ length f.1.0.now
     → read_contract.Learnt R laws reader dict a inputs (Ok true) e → read_contract.Learnt R laws reader dict a inputs (Ok true) f
@@ -134,3 +145,15 @@ read_filled R laws reader dict a inputs given e f known long p q =
     let p' = whole R laws reader dict a inputs given true e known p in
     let q' = whole R laws reader dict a inputs given true f known q in
     same_bytes given e.1.0.now f.1.0.now (reader.remaining e.0.now) (reader.remaining f.0.now) long (p'.0 refl) (q'.0 refl)
+
+-- Where it answers false the bytes at the front are the same, as many as there were, and nothing is left. The bytes past those are open.
+pub read_cut : (R : RattleType) (laws : Laws R) (reader : Ghosts R.Denot) (dict : Dict) (a : Lfts 3) (inputs : Lent R) (given : List ℕ)
+    (e f : Lent R) → reader.remaining inputs.0.now ≡ Some given
+    → read_contract.Learnt R laws reader dict a inputs (Ok false) e → read_contract.Learnt R laws reader dict a inputs (Ok false) f
+    → (take (length given) e.1.0.now ≡ take (length given) f.1.0.now) × (reader.remaining e.0.now ≡ reader.remaining f.0.now)
+read_cut R laws reader dict a inputs given e f known p q =
+    let p' = whole R laws reader dict a inputs given false e known p in
+    let q' = whole R laws reader dict a inputs given false f known q in
+    let one = stands given e.1.0.now (reader.remaining e.0.now) (p'.1 refl) (p'.2 refl) in
+    let other = stands given f.1.0.now (reader.remaining f.0.now) (q'.1 refl) (q'.2 refl) in
+    (one.0 ∙ sym other.0, one.1 ∙ sym other.1)
