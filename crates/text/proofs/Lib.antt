@@ -1,3 +1,4 @@
 pub mod Counted
 pub mod Written
 pub mod Taken
+pub mod Determined

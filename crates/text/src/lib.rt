@@ -6,7 +6,7 @@
 ghost use Rattle.std.specs.Prelude.{◌≡◌, ◌<◌, ◌≤◌, true, false, IfOk, OnOk, OnErr, decimal, length, take};
 ghost use Rattle.std.specs.Io.KnownBytes.{Appends, Consumes, IsAtEnd, Keeps};
 ghost use Rattle.text.specs.Bytes.{shifted_by, number_of};
-ghost use Rattle.text.specs.Taken.{TakesSome};
+ghost use Rattle.text.specs.Taken.{TakesSome, TakesFewer};
 ghost use Rattle.text.specs.Written.{number_at_place, hex_digit, hex_of_byte, hex_of};
 
 use std::io;
@@ -142,6 +142,7 @@ pub fn read_front<R: Read>(input: &mut R, bytes: &mut [u8]) -> io::Result<usize>
 pub fn read<R: Read>(input: &mut R, bytes: &mut [u8]) -> io::Result<bool>
     ensures filled { IfOk result (λ whole. whole ≡ true → Consumes (R.remaining input.old) (R.remaining input.new) bytes.new) }
     ensures cut { IfOk result (λ whole. whole ≡ false → IsAtEnd (R.remaining input.new)) }
+    ensures fewer { IfOk result (λ whole. whole ≡ false → TakesFewer (R.remaining input.old) (R.remaining input.new) bytes.new) }
     ensures err { OnErr result (TakesSome (R.remaining input.old) (R.remaining input.new) bytes.new) }
 {
     Ok(read_front(input, bytes)? == bytes.len())
