@@ -45,6 +45,7 @@ fn has_twin(low: &[u8], high: &[u8], link: Link) -> bool
     false
 }
 
+#[tactic(auto, unfolding(crate::specs::Name::name_of))]
 pub fn name_of(low: &[u8], high: &[u8], failure: Failure) -> FailureName
     ensures { result ≡ name_of low.now high.now failure }
 {

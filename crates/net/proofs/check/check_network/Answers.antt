@@ -1,13 +1,20 @@
-use mathlib.Core.Bool.{false}
 use mathlib.Core.Path.{◌≡◌, refl, sym, ◌∙◌}
 use native.Mathlib.Omega.{arith}
 use native.Mathlib.Numerals.{add-one}
 use borrow.Author.Rules.{rules}
+use Prim.Native.Nat.{ℕ}
+use lib.ListN.{get_or}
 use Rattle.net.specs.Rows.{Rows}
-use Rattle.net.specs.Check.{bad_node_count, span_before}
+use Rattle.net.specs.declared.check.Span.{Span}
+use Rattle.net.specs.Check.{span_before, link_fault}
 use Rattle.net.proofs.Faults.{fault_at, links_done, links_on, links_left}
 use Rattle.net.proofs.Faults.{high_differs, weight_differs, many_nodes, links_begin}
 use Rattle.net.proofs.check.check_network.Goals as goal
+
+-- the fault that the body finds is that of link k after the one before it
+found : (R : Rows) (k : ℕ) {before : Span} {low high fault : ℕ} → before ≡ span_before R k → low ≡ get_or R.low k 0
+    → high ≡ get_or R.high k 0 → fault ≡ link_fault R.nodes before low high (get_or R.weight k 0) → fault_at R k ≡ fault
+found R k last low_end high_end is = rw (← last, ← low_end, ← high_end) (sym is)
 
 pub returns-then-high-links : goal.returns-then-high-links
 returns-then-high-links c = c.unplaced.ensures ∙ sym (high_differs _ c.if-high-links.true)
@@ -23,48 +30,32 @@ returns-then-bad_node_count c =
 pub loop-k-init : goal.loop-k-init
 unfolding span_before
 loop-k-init c =
-    let few_nodes : c.bad_node_count.result ≡ false → bad_node_count c.args.n ≡ false = λ e. sym c.bad_node_count.ensures ∙ e in
+    let few = sym c.bad_node_count.ensures ∙ c.if-bad_node_count.false in
     record {
       all = refl;
       passed = search rules;
       weights = c.if-weight-links.false;
       last = refl;
-      rest = links_begin _ c.if-high-links.false c.if-weight-links.false (few_nodes c.if-bad_node_count.false) (omega arith);
+      rest = links_begin _ c.if-high-links.false c.if-weight-links.false few (omega arith);
     }
 
 pub returns-then-fault-ne-NONE : goal.returns-then-fault-ne-NONE
 returns-then-fault-ne-NONE c =
-    let rows_of : Rows = let a = c.args in
-    record { nodes = a.n; low = a.low.now; high = a.high.now; weight = a.weight.now } in
-    let found : fault_at (rows_of) c.loop-k.k ≡ c.link_fault-fault.result = rw (
-      ← c.loop-k.invariant.last,
-      ← c.end_at.ensures,
-      ← c.end_at-in-loop-k.ensures,
-    )
-    (sym c.link_fault-fault.ensures) in
     let at = c.loop-k in
-    sym (at.invariant.rest ∙ links_left _ _ at.k _ c.loop-k-test.true (found) c.if-fault-ne-NONE.true)
+    let looked = found _ at.k at.invariant.last c.end_at.ensures c.end_at-in-loop-k.ensures c.link_fault-fault.ensures in
+    sym (at.invariant.rest ∙ links_left _ _ at.k _ c.loop-k-test.true looked c.if-fault-ne-NONE.true)
 
 pub loop-k-preserved : goal.loop-k-preserved
 unfolding span_before
 loop-k-preserved c =
-    let rows_of : Rows = let a = c.args in
-    record { nodes = a.n; low = a.low.now; high = a.high.now; weight = a.weight.now } in
-    let found : fault_at (rows_of) c.loop-k.k ≡ c.link_fault-fault.result = rw (
-      ← c.loop-k.invariant.last,
-      ← c.end_at.ensures,
-      ← c.end_at-in-loop-k.ensures,
-    )
-    (sym c.link_fault-fault.ensures) in
     let at = c.loop-k in
+    let looked = found _ at.k at.invariant.last c.end_at.ensures c.end_at-in-loop-k.ensures c.link_fault-fault.ensures in
     record {
       all = at.invariant.all;
       passed = search rules;
       weights = at.invariant.weights;
       last = rw (add-one, c.end_at.ensures, c.end_at-in-loop-k.ensures);
-      rest =
-          at.invariant.rest
-          ∙ links_on _ _ at.k c.loop-k-test.true (found ∙ c.if-fault-ne-NONE.false);
+      rest = at.invariant.rest ∙ links_on _ _ at.k c.loop-k-test.true (looked ∙ c.if-fault-ne-NONE.false);
     }
 
 pub returns : goal.returns
