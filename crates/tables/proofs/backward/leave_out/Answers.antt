@@ -11,27 +11,21 @@ backward_byte-byte-requires c =
 
 pub overflow_mul-table : goal.overflow_mul-table
 overflow_mul-table c =
-    omega (
-      arith,
-      back_room c.requires _ c.loop-i-test.true c.loop-i.invariant.1 (omega arith) _
-          (sym c.is_empty.ensures ∙ c.if-not-is_empty.true) (omega arith) _ c.reverse_of-h.ensures,
-    )
+    let room = back_room c.requires _ c.loop-i-test.true c.loop-i.invariant.1 (omega arith) _
+    (sym c.is_empty.ensures ∙ c.if-not-is_empty.true) (omega arith) _ c.reverse_of-h.ensures in
+    omega (arith, room)
 
 pub overflow_add-table : goal.overflow_add-table
 overflow_add-table c =
-    omega (
-      arith,
-      back_room c.requires _ c.loop-i-test.true c.loop-i.invariant.1 (omega arith) _
-          (sym c.is_empty.ensures ∙ c.if-not-is_empty.true) (omega arith) _ c.reverse_of-h.ensures,
-    )
+    let room = back_room c.requires _ c.loop-i-test.true c.loop-i.invariant.1 (omega arith) _
+    (sym c.is_empty.ensures ∙ c.if-not-is_empty.true) (omega arith) _ c.reverse_of-h.ensures in
+    omega (arith, room)
 
 pub bounds-table-h : goal.bounds-table-h
 bounds-table-h c =
-    omega (
-      arith,
-      back_room c.requires _ c.loop-i-test.true c.loop-i.invariant.1 (omega arith) _
-          (sym c.is_empty.ensures ∙ c.if-not-is_empty.true) (omega arith) _ c.reverse_of-h.ensures,
-    )
+    let room = back_room c.requires _ c.loop-i-test.true c.loop-i.invariant.1 (omega arith) _
+    (sym c.is_empty.ensures ∙ c.if-not-is_empty.true) (omega arith) _ c.reverse_of-h.ensures in
+    omega (arith, room)
 
 pub loop-i-preserved : goal.loop-i-preserved
 loop-i-preserved c =
