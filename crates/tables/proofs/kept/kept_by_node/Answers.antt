@@ -1,23 +1,17 @@
 use mathlib.Core.List.{[]}
 use native.Mathlib.Omega.{arith}
 use lib.ListN.{get_or}
-use borrow.Kind.Array.{e_struct}
-use Rattle.tables.specs.contracts.kept.Kept.{the_type}
-use Rattle.tables.proofs.kept.Kept.TheLaws.{the_laws, the_copy}
 use Rattle.paths.proofs.Shape.{Shaped, array_shaped, within}
 use Rattle.paths.proofs.Turning.{turned_start, turned_more}
 use Rattle.tables.specs.inner.Detours.{nothing_kept, kept_for, kept_at}
 use Rattle.tables.proofs.kept.kept_by_node.Goals as goal
 
 pub loop-i-init : goal.loop-i-init
-loop-i-init c =
-    turned_start nothing_kept
-    (array_shaped (e_struct the_type the_laws the_copy).ty.own_val _ _ c.well_formed.0.1.0.1 c.well_formed.0.1.1)
+loop-i-init c = turned_start nothing_kept (search array_shaped)
 
 pub loop-d-preserved : goal.loop-d-preserved
 loop-d-preserved c =
-    let shaped : Shaped c.args.kept =
-    array_shaped (e_struct the_type the_laws the_copy).ty.own_val _ _ c.well_formed.0.1.0.1 c.well_formed.0.1.1 in
+    let shaped : Shaped c.args.kept = search array_shaped in
     let i = c.loop-i.i in
     let at = c.loop-d in
     turned_more nothing_kept at.invariant (omega arith) (omega arith)
