@@ -14,7 +14,7 @@ use report::Figures;
 use std::io;
 use std::io::{Read, Write};
 use text::{
-    Head, RECORDS, Rows, UNTOUCHED, decimal, front, front_room, front_weights, hex,
+    Head, RECORDS, Rows, UNTOUCHED, decimal, front, front_room, hex,
     number_and_place, read_head, read_network, read_number, text,
 };
 use walk::{Asked, Stepped, Walked};
@@ -38,7 +38,7 @@ fn build(rows: Rows, routing: &mut [u8], forwarding: &mut [u8], backwarding: &mu
         rows.nodes,
         front(&low, rows.lows),
         front(&high, rows.highs),
-        front_weights(&weight, rows.weights),
+        front(&weight, rows.weights),
         routing,
         forwarding,
         backwarding,
@@ -114,7 +114,7 @@ fn keys_line<R: Read, W: Write>(input: &mut R, out: &mut W) -> io::Result<()> {
         rows.nodes,
         front(&low, rows.lows),
         front(&high, rows.highs),
-        front_weights(&weight, rows.weights),
+        front(&weight, rows.weights),
         Interface(interface),
         Node(destination),
     );
@@ -135,7 +135,7 @@ fn best_line<R: Read, W: Write>(input: &mut R, out: &mut W) -> io::Result<()> {
         rows.nodes,
         front(&low, rows.lows),
         front(&high, rows.highs),
-        front_weights(&weight, rows.weights),
+        front(&weight, rows.weights),
         Node(source),
         Node(destination),
     );
@@ -199,7 +199,7 @@ fn step_of(
         rows.nodes,
         front(&low, rows.lows),
         front(&high, rows.highs),
-        front_weights(&weight, rows.weights),
+        front(&weight, rows.weights),
         routing,
         forwarding,
         backwarding,
@@ -252,7 +252,7 @@ fn walk_of(
         rows.nodes,
         front(&low, rows.lows),
         front(&high, rows.highs),
-        front_weights(&weight, rows.weights),
+        front(&weight, rows.weights),
         routing,
         forwarding,
         backwarding,
@@ -311,7 +311,7 @@ fn all_walks_of(rows: Rows, routing: &[u8], forwarding: &[u8], backwarding: &[u8
         rows.nodes,
         front(&low, rows.lows),
         front(&high, rows.highs),
-        front_weights(&weight, rows.weights),
+        front(&weight, rows.weights),
         routing,
         forwarding,
         backwarding,
@@ -347,7 +347,7 @@ fn figures_of(
         rows.nodes,
         front(&low, rows.lows),
         front(&high, rows.highs),
-        front_weights(&weight, rows.weights),
+        front(&weight, rows.weights),
         routing,
         forwarding,
         backwarding,

@@ -7,7 +7,7 @@ use net::{end_at, limit};
 use std::io;
 use std::io::{Read, Write};
 use text::{
-    Head, RECORDS, SPARE, UNTOUCHED, decimal, front, front_room, front_weights, hex,
+    Head, RECORDS, SPARE, UNTOUCHED, decimal, front, front_room, hex,
     number_and_place, read, read_head, read_network, read_number, text,
 };
 
@@ -84,7 +84,7 @@ fn print_plan<W: Write>(out: &mut W, s: &[u8]) -> io::Result<()> {
         network.nodes,
         front(&low, links),
         front(&high, links),
-        front_weights(&weight, links),
+        front(&weight, links),
     )
 }
 
@@ -137,7 +137,7 @@ fn network_record<R: Read, W: Write>(input: &mut R, out: &mut W) -> io::Result<b
         rows.nodes,
         front(&low, rows.lows),
         front(&high, rows.highs),
-        front_weights(&weight, rows.weights),
+        front(&weight, rows.weights),
         front_room(&mut room, length),
     )?;
     Ok(true)

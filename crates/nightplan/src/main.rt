@@ -6,7 +6,7 @@ use net::{Failure, Link, limit};
 use report::{Line, Lines};
 use std::io;
 use std::io::{Read, Write};
-use text::{decimal, front, front_weights, number_and_place, read_front, text};
+use text::{decimal, front, number_and_place, read_front, text};
 
 // The bytes of the input that are kept: as many as the longest plan has, and one more, which shows that bytes are left. From these an
 // input gets the reader's answer to all of it (`reads_first` in `plan`).
@@ -118,7 +118,7 @@ fn report_plan<R: Read, W: Write>(input: &mut R, out: &mut W) -> io::Result<()> 
         network.nodes,
         front(&low, links),
         front(&high, links),
-        front_weights(&weight, links),
+        front(&weight, links),
     )
 }
 

@@ -1,19 +1,15 @@
--- The front of a row: where the row has n elements, its first n are n. And the number of the bytes from a place on: of none it is 0, and
--- with one byte more it is moved up by that byte.
-use Prim.Native.Nat.{ℕ, suc, ◌≤◌, ◌<◌}
-use mathlib.Core.Path.{◌≡◌, sym}
-use mathlib.Core.List.{List}
-use lib.ListN.{length, get_or, take, drop}
-use lib.Seq.{length-take-le, drop-cons, drop-length}
+-- The number of the bytes, low byte first, as a fold from the last byte to the first.
+use Prim.Native.Nat.{ℕ}
+use mathlib.Core.Path.{◌≡◌, refl, ap, ◌∙◌}
+use mathlib.Core.List.{List, [], ◌∷◌, reverse}
+use Rattle.std.specs.List.{fold}
+use Rattle.std.proofs.lemmas.List.{reverse-append}
+use Rattle.std.proofs.lemmas.List.Sums.{fold-append}
 use Rattle.text.specs.Bytes.{shifted_by, number_of}
 
-pub front_length : (n : ℕ) (row : List ℕ) → n ≤ length row → n ≡ length (take n row)
-front_length n row within = sym (length-take-le n row within)
-
-pub number_none : (bytes : List ℕ) → number_of (drop (length bytes) bytes) ≡ 0
+pub number_from_last : (bytes : List ℕ) → fold shifted_by 0 (reverse bytes) ≡ number_of bytes
 unfolding number_of
-number_none bytes = rw (drop-length bytes)
-
-pub number_more : (bytes : List ℕ) (i : ℕ) → i < length bytes → number_of (drop i bytes) ≡ shifted_by (number_of (drop (suc i) bytes)) (get_or bytes i 0)
-unfolding number_of
-number_more bytes i h = rw (drop-cons bytes i 0 h)
+number_from_last [] = refl
+number_from_last (byte ∷ above) =
+    ap (fold shifted_by 0) (reverse-append (byte ∷ []) above) ∙ fold-append shifted_by 0 (reverse above) (byte ∷ [])
+    ∙ ap (λ v. shifted_by v byte) (number_from_last above)

@@ -7,7 +7,7 @@ ghost use Rattle.std.specs.Prelude.{◌≡◌, ◌<◌, ◌≤◌, true, false, 
 ghost use Rattle.std.specs.Io.KnownBytes.{Appends, Consumes, IsAtEnd, Keeps};
 ghost use Rattle.text.specs.Bytes.{shifted_by, number_of};
 ghost use Rattle.text.specs.Taken.{TakesSome, TakesFewer};
-ghost use Rattle.text.specs.Written.{number_at_place, hex_digit, hex_of_byte, hex_of};
+ghost use Rattle.text.specs.Written.{number_at_place, hex_of};
 
 use std::io;
 use std::io::{ErrorKind, Read, Write};
@@ -42,62 +42,35 @@ pub fn decimal<W: Write>(out: &mut W, n: usize) -> io::Result<()>
 pub fn number_and_place<W: Write>(out: &mut W, number: u8, place: usize) -> io::Result<()>
     ensures { OnOk result (Appends (W.contents out.old) (W.contents out.new) (number_at_place number place)) }
 {
-    decimal(out, number as usize)?;
-    text(out, b" at ")?;
-    decimal(out, place)
+    write!(out, "{number} at {place}")
 }
 
 // Writes each byte as two hexadecimal digits in lower case.
+#[tactic(auto, using(crate::proofs::Written::digits_so_far))]
 pub fn hex<W: Write>(out: &mut W, bytes: &[u8]) -> io::Result<()>
     ensures { OnOk result (Appends (W.contents out.old) (W.contents out.new) (hex_of bytes.now)) }
 {
-    let mut i = 0;
-    while i < bytes.len() {
-        print_byte(out, bytes[i])?;
-        i += 1;
+    for byte in bytes {
+        write!(out, "{byte:02x}")?;
     }
     Ok(())
-}
-
-fn print_byte<W: Write>(out: &mut W, byte: u8) -> io::Result<()>
-    ensures { OnOk result (Appends (W.contents out.old) (W.contents out.new) (hex_of_byte byte)) }
-{
-    text(out, &[digit(byte / 16), digit(byte % 16)])
-}
-
-fn digit(half: u8) -> u8
-    requires { half < 16 }
-    ensures { result ≡ hex_digit half }
-{
-    if half < 10 {
-        b'0' + half
-    } else {
-        b'a' - 10 + half
-    }
 }
 
 // The bytes as one number, low byte first; those past the eighth do not count.
 pub fn number_of(bytes: &[u8]) -> u64
     ensures { result ≡ number_of bytes.now }
 {
-    let mut value: u64 = 0;
-    let mut i = bytes.len();
-    while 0 < i {
-        i -= 1;
-        value = shifted(value, bytes[i]);
-    }
-    value
+    bytes
+        .iter()
+        .rev()
+        .fold(0, |above, byte| shifted(above, *byte))
 }
 
 // The number moved up by one byte, with this byte below it; what goes past 2^64 falls away.
 fn shifted(value: u64, byte: u8) -> u64
     ensures { result ≡ shifted_by value byte }
 {
-    value % 72057594037927936 * 256 + byte as u64
-}
-
-fn wide(byte: u8) -> usize {
-    byte as usize
+    value % (1 << 56) * 256 + u64::from(byte)
 }
 
 // One read, made again where it was interrupted.
@@ -109,18 +82,16 @@ fn read_some<R: Read>(input: &mut R, bytes: &mut [u8]) -> io::Result<usize>
 {
     for _ in 0..u64::MAX {
         match input.read(bytes) {
-            Ok(n) => return Ok(n),
-            Err(e) => {
-                if e.kind() != ErrorKind::Interrupted {
-                    return Err(e);
-                }
-            }
+            Err(e) if e.kind() == ErrorKind::Interrupted => {}
+            outcome => return outcome,
         }
     }
     input.read(bytes)
 }
 
-// Reads until the bytes are full or the input ends, and returns how many it put at their start.
+// Reads until the bytes are full or the input ends, and returns how many it put at their start. The loop is over what is left of the
+// bytes: std's `read_exact` tells the end as an error and says nothing of what it read before one, where `taken` and `err` speak of it.
+#[tactic(auto, using(crate::proofs::Taken::taken_so_far))]
 pub fn read_front<R: Read>(input: &mut R, bytes: &mut [u8]) -> io::Result<usize>
     ensures bound { IfOk result (λ n. n ≤ length bytes.new) }
     ensures taken { IfOk result (λ n. Consumes (R.remaining input.old) (R.remaining input.new) (take n bytes.new)) }
@@ -173,23 +144,15 @@ pub fn read_head<R: Read>(input: &mut R) -> io::Result<Head> {
 
 // Fills the first n weights, 4 bytes each, low byte first: false where the input ends before, or there are fewer.
 pub fn read_weights<R: Read>(input: &mut R, weights: &mut [u32], n: usize) -> io::Result<bool> {
-    let mut i = 0;
-    while i < n {
-        if weights.len() <= i {
-            return Ok(false);
-        }
+    let enough = n <= weights.len();
+    for weight in weights.iter_mut().take(n) {
         let mut bytes = [0u8; 4];
         if !read(input, &mut bytes)? {
             return Ok(false);
         }
-        weights[i] = low_half(number_of(&bytes));
-        i += 1;
+        *weight = u32::from_le_bytes(bytes);
     }
-    Ok(true)
-}
-
-fn low_half(n: u64) -> u32 {
-    (n % 4294967296) as u32
+    Ok(enough)
 }
 
 // A network in memory as a batch has it, its rows of any length.
@@ -209,9 +172,7 @@ pub fn read_network<R: Read>(input: &mut R) -> io::Result<Rows> {
     let nodes = read_number(input, 8)?;
     let mut lengths = [0u8; 3];
     read(input, &mut lengths)?;
-    let lows = wide(lengths[0]);
-    let highs = wide(lengths[1]);
-    let weights = wide(lengths[2]);
+    let [lows, highs, weights] = lengths.map(usize::from);
     let mut low = [0u8; ROW];
     read(input, front_room(&mut low, lows))?;
     let mut high = [0u8; ROW];
@@ -219,42 +180,27 @@ pub fn read_network<R: Read>(input: &mut R) -> io::Result<Rows> {
     let mut weight = [0u32; ROW];
     read_weights(input, &mut weight, weights)?;
     Ok(Rows {
-        nodes: nodes,
-        lows: lows,
-        highs: highs,
-        weights: weights,
-        low: low,
-        high: high,
-        weight: weight,
+        nodes,
+        lows,
+        highs,
+        weights,
+        low,
+        high,
+        weight,
     })
 }
 
-// The first n bytes, or all where there are fewer.
-pub fn front(bytes: &[u8], n: usize) -> &[u8]
-    ensures { result.now ≡ take n bytes.now }
+// The first n elements, or all where there are fewer.
+pub fn front<T>(row: &[T], n: usize) -> &[T]
+    ensures { result.now ≡ take n row.now }
 {
-    if bytes.len() < n {
-        return bytes;
-    }
-    &bytes[..n]
+    row.get(..n).unwrap_or(row)
 }
 
-// The same, to be written.
+// The same of bytes, to be written.
 pub fn front_room(bytes: &mut [u8], n: usize) -> &mut [u8]
     ensures { result.now ≡ take n bytes.old }
 {
-    if bytes.len() < n {
-        return bytes;
-    }
-    &mut bytes[..n]
-}
-
-// The first n weights, or all where there are fewer.
-pub fn front_weights(weights: &[u32], n: usize) -> &[u32]
-    ensures { result.now ≡ take n weights.now }
-{
-    if weights.len() < n {
-        return weights;
-    }
-    &weights[..n]
+    let count = n.min(bytes.len());
+    &mut bytes[..count]
 }
