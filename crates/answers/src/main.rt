@@ -14,7 +14,7 @@ use report::Figures;
 use std::io;
 use std::io::{Read, Write};
 use text::{
-    Head, RECORDS, Rows, UNTOUCHED, decimal, front, front_room, hex,
+    RECORDS, Rows, UNTOUCHED, decimal, front, front_room, hex,
     number_and_place, read_head, read_network, read_number, text,
 };
 use walk::{Asked, Stepped, Walked};
@@ -408,11 +408,10 @@ fn answer<R: Read, W: Write>(input: &mut R, out: &mut W, kind: u8) -> io::Result
 }
 
 fn record<R: Read, W: Write>(input: &mut R, out: &mut W) -> io::Result<bool> {
-    let head = read_head(input)?;
-    let Head::Record(kind, _) = head else {
+    let Some(head) = read_head(input)? else {
         return Ok(false);
     };
-    answer(input, out, kind)
+    answer(input, out, head.kind)
 }
 
 fn answer_records<R: Read, W: Write>(input: &mut R, out: &mut W) -> io::Result<()> {

@@ -7,7 +7,7 @@ use net::{end_at, limit};
 use std::io;
 use std::io::{Read, Write};
 use text::{
-    Head, RECORDS, SPARE, UNTOUCHED, decimal, front, front_room, hex,
+    RECORDS, SPARE, UNTOUCHED, decimal, front, front_room, hex,
     number_and_place, read, read_head, read_network, read_number, text,
 };
 
@@ -144,17 +144,14 @@ fn network_record<R: Read, W: Write>(input: &mut R, out: &mut W) -> io::Result<b
 }
 
 fn record<R: Read, W: Write>(input: &mut R, out: &mut W) -> io::Result<bool> {
-    let head = read_head(input)?;
-    let Head::Record(kind, length) = head else {
+    let Some(head) = read_head(input)? else {
         return Ok(false);
     };
-    if kind == b'P' {
-        return plan_record(input, out, length);
+    match head.kind {
+        b'P' => plan_record(input, out, head.length),
+        b'N' => network_record(input, out),
+        _ => Ok(false),
     }
-    if kind == b'N' {
-        return network_record(input, out);
-    }
-    Ok(false)
 }
 
 fn answer_records<R: Read, W: Write>(input: &mut R, out: &mut W) -> io::Result<()> {

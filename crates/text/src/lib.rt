@@ -126,20 +126,24 @@ pub fn read_number<R: Read>(input: &mut R, width: usize) -> io::Result<usize> {
     Ok(number_of(&bytes) as usize)
 }
 
-// How a record of a batch begins (compare/FORMAT.md): its kind and the length of its fields; or there is none left.
+// A record of a batch as its head tells it (compare/FORMAT.md): its kind and the length of its fields, which come next.
 #[derive(Clone, Copy)]
-pub enum Head {
-    Record(u8, usize),
-    End,
+pub struct Record {
+    pub kind: u8,
+    pub length: usize,
 }
 
-pub fn read_head<R: Read>(input: &mut R) -> io::Result<Head> {
+// Reads the head of the next record: none where the input has ended.
+pub fn read_head<R: Read>(input: &mut R) -> io::Result<Option<Record>> {
     let mut kind = [0u8; 1];
     if !read(input, &mut kind)? {
-        return Ok(Head::End);
+        return Ok(None);
     }
     let length = read_number(input, 4)?;
-    Ok(Head::Record(kind[0], length))
+    Ok(Some(Record {
+        kind: kind[0],
+        length,
+    }))
 }
 
 // Fills the first n weights, 4 bytes each, low byte first: false where the input ends before, or there are fewer.
