@@ -14,8 +14,8 @@ use report::Figures;
 use std::io;
 use std::io::{Read, Write};
 use text::{
-    RECORDS, Rows, UNTOUCHED, decimal, front, front_room, hex,
-    number_and_place, read_head, read_network, read_number, text,
+    RECORDS, Rows, UNTOUCHED, decimal, front, front_room, hex, number_and_place, read_head,
+    read_network, read_number, text,
 };
 use walk::{Asked, Stepped, Walked};
 use walks::all_walks;
@@ -31,14 +31,11 @@ fn in_full(number: u8, n: usize) -> bool {
 }
 
 fn build(rows: Rows, routing: &mut [u8], forwarding: &mut [u8], backwarding: &mut [u8]) -> Verdict {
-    let low = rows.low;
-    let high = rows.high;
-    let weight = rows.weight;
     tables::build_tables(
         rows.nodes,
-        front(&low, rows.lows),
-        front(&high, rows.highs),
-        front(&weight, rows.weights),
+        rows.low(),
+        rows.high(),
+        rows.weight(),
         routing,
         forwarding,
         backwarding,
@@ -105,16 +102,13 @@ fn tables_line<R: Read, W: Write>(input: &mut R, out: &mut W) -> io::Result<()> 
 
 fn keys_line<R: Read, W: Write>(input: &mut R, out: &mut W) -> io::Result<()> {
     let rows = read_network(input)?;
-    let low = rows.low;
-    let high = rows.high;
-    let weight = rows.weight;
     let interface = read_number(input, 8)?;
     let destination = read_number(input, 8)?;
     let answer = tables::key_links(
         rows.nodes,
-        front(&low, rows.lows),
-        front(&high, rows.highs),
-        front(&weight, rows.weights),
+        rows.low(),
+        rows.high(),
+        rows.weight(),
         Interface(interface),
         Node(destination),
     );
@@ -126,16 +120,13 @@ fn keys_line<R: Read, W: Write>(input: &mut R, out: &mut W) -> io::Result<()> {
 
 fn best_line<R: Read, W: Write>(input: &mut R, out: &mut W) -> io::Result<()> {
     let rows = read_network(input)?;
-    let low = rows.low;
-    let high = rows.high;
-    let weight = rows.weight;
     let source = read_number(input, 8)?;
     let destination = read_number(input, 8)?;
     let answer = paths::best_path(
         rows.nodes,
-        front(&low, rows.lows),
-        front(&high, rows.highs),
-        front(&weight, rows.weights),
+        rows.low(),
+        rows.high(),
+        rows.weight(),
         Node(source),
         Node(destination),
     );
@@ -192,14 +183,11 @@ fn step_of(
     destination: usize,
     failure: Failure,
 ) -> Stepped {
-    let low = rows.low;
-    let high = rows.high;
-    let weight = rows.weight;
     walk::step(
         rows.nodes,
-        front(&low, rows.lows),
-        front(&high, rows.highs),
-        front(&weight, rows.weights),
+        rows.low(),
+        rows.high(),
+        rows.weight(),
         routing,
         forwarding,
         backwarding,
@@ -245,14 +233,11 @@ fn walk_of(
     limit: u8,
     trace: &mut [u8],
 ) -> Walked {
-    let low = rows.low;
-    let high = rows.high;
-    let weight = rows.weight;
     walk::walk(
         rows.nodes,
-        front(&low, rows.lows),
-        front(&high, rows.highs),
-        front(&weight, rows.weights),
+        rows.low(),
+        rows.high(),
+        rows.weight(),
         routing,
         forwarding,
         backwarding,
@@ -304,14 +289,11 @@ fn walk_line<R: Read, W: Write>(input: &mut R, out: &mut W) -> io::Result<()> {
 }
 
 fn all_walks_of(rows: Rows, routing: &[u8], forwarding: &[u8], backwarding: &[u8]) -> u64 {
-    let low = rows.low;
-    let high = rows.high;
-    let weight = rows.weight;
     all_walks(
         rows.nodes,
-        front(&low, rows.lows),
-        front(&high, rows.highs),
-        front(&weight, rows.weights),
+        rows.low(),
+        rows.high(),
+        rows.weight(),
         routing,
         forwarding,
         backwarding,
@@ -340,14 +322,11 @@ fn figures_of(
     backwarding: &[u8],
     failure: Failure,
 ) -> Figures {
-    let low = rows.low;
-    let high = rows.high;
-    let weight = rows.weight;
     report::failure_line(
         rows.nodes,
-        front(&low, rows.lows),
-        front(&high, rows.highs),
-        front(&weight, rows.weights),
+        rows.low(),
+        rows.high(),
+        rows.weight(),
         routing,
         forwarding,
         backwarding,

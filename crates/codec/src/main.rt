@@ -7,8 +7,8 @@ use net::{end_at, limit};
 use std::io;
 use std::io::{Read, Write};
 use text::{
-    RECORDS, SPARE, UNTOUCHED, decimal, front, front_room, hex,
-    number_and_place, read, read_head, read_network, read_number, text,
+    RECORDS, SPARE, UNTOUCHED, decimal, front, front_room, hex, number_and_place, read, read_head,
+    read_network, read_number, text,
 };
 
 // The longest stored plan of a record, and the longest room for one: 2 + 3 * LINKS numbers of three groups each, and what is to spare.
@@ -129,15 +129,12 @@ fn network_record<R: Read, W: Write>(input: &mut R, out: &mut W) -> io::Result<b
     if room.len() < length {
         return Ok(false);
     }
-    let low = rows.low;
-    let high = rows.high;
-    let weight = rows.weight;
     print_checks(
         out,
         rows.nodes,
-        front(&low, rows.lows),
-        front(&high, rows.highs),
-        front(&weight, rows.weights),
+        rows.low(),
+        rows.high(),
+        rows.weight(),
         front_room(&mut room, length),
     )?;
     Ok(true)

@@ -159,7 +159,8 @@ pub fn read_weights<R: Read>(input: &mut R, weights: &mut [u32], n: usize) -> io
     Ok(enough)
 }
 
-// A network in memory as a batch has it, its rows of any length.
+// A network in memory as a batch has it, its rows of any length. The programs have no heap, so each row is an array that has room for the
+// longest, and its length; `low`, `high` and `weight` lend the row alone.
 #[derive(Clone, Copy)]
 pub struct Rows {
     pub nodes: usize,
@@ -169,6 +170,29 @@ pub struct Rows {
     pub low: [u8; ROW],
     pub high: [u8; ROW],
     pub weight: [u32; ROW],
+}
+
+impl Rows {
+    // The low ends of the links.
+    pub fn low(&self) -> &[u8]
+        ensures { result.now ≡ take self.now.lows self.now.low }
+    {
+        front(&self.low, self.lows)
+    }
+
+    // The high ends.
+    pub fn high(&self) -> &[u8]
+        ensures { result.now ≡ take self.now.highs self.now.high }
+    {
+        front(&self.high, self.highs)
+    }
+
+    // The weights.
+    pub fn weight(&self) -> &[u32]
+        ensures { result.now ≡ take self.now.weights self.now.weight }
+    {
+        front(&self.weight, self.weights)
+    }
 }
 
 // Reads a network (compare/FORMAT.md). What the input lacks is 0.
