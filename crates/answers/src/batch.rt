@@ -2,6 +2,7 @@
 use net::{Failure, Interface, Link, Node, limit};
 use std::io;
 use std::io::Read;
+use tables::Tables;
 use text::{SPARE, front, front_room, read, read_number};
 use walk::Asked;
 
@@ -22,42 +23,82 @@ pub fn read_byte<R: Read>(input: &mut R) -> io::Result<u8> {
     Ok(bytes[0])
 }
 
-// A lent table: so many bytes from the start.
+// A lent table: so many bytes from the start. The programs have no heap, so an array has room for the longest, and its length stands beside.
 #[derive(Clone, Copy)]
 pub struct Table {
     pub length: usize,
     pub bytes: [u8; TABLE],
 }
 
+impl Table {
+    // The table's bytes alone.
+    pub fn lent(&self) -> &[u8] {
+        front(&self.bytes, self.length)
+    }
+}
+
 pub fn read_table<R: Read>(input: &mut R) -> io::Result<Table> {
     let length = read_number(input, 2)?;
     let mut bytes = [0u8; TABLE];
     read(input, front_room(&mut bytes, length))?;
-    Ok(Table {
-        length: length,
-        bytes: bytes,
+    Ok(Table { length, bytes })
+}
+
+// The three tables of a record.
+#[derive(Clone, Copy)]
+pub struct ThreeTables {
+    pub routing: Table,
+    pub forwarding: Table,
+    pub backwarding: Table,
+}
+
+impl ThreeTables {
+    pub fn lent(&self) -> Tables<'_> {
+        Tables {
+            routing: self.routing.lent(),
+            forwarding: self.forwarding.lent(),
+            backwarding: self.backwarding.lent(),
+        }
+    }
+}
+
+pub fn read_tables<R: Read>(input: &mut R) -> io::Result<ThreeTables> {
+    let routing = read_table(input)?;
+    let forwarding = read_table(input)?;
+    let backwarding = read_table(input)?;
+    Ok(ThreeTables {
+        routing,
+        forwarding,
+        backwarding,
     })
 }
 
-// The table's bytes alone.
-pub fn lent(bytes: &[u8; TABLE], length: usize) -> &[u8] {
-    front(bytes, length)
+// One of two by a first byte, 0 or another, and a number.
+fn read_choice<R: Read, T, Z: Fn(usize) -> T, O: Fn(usize) -> T>(
+    input: &mut R,
+    zero: &Z,
+    other: &O,
+) -> io::Result<T>
+    requires zero { (n : _) → Z.pre zero.now n }
+    requires other { (n : _) → O.pre other.now n }
+{
+    let kind = read_byte(input)?;
+    let number = read_number(input, 8)?;
+    Ok(if kind == 0 {
+        zero(number)
+    } else {
+        other(number)
+    })
 }
 
 pub fn read_failure<R: Read>(input: &mut R) -> io::Result<Failure> {
-    let kind = read_byte(input)?;
-    let link = read_number(input, 8)?;
-    if kind == 0 {
-        return Ok(Failure::Nothing);
-    }
-    Ok(Failure::One(Link(link)))
+    read_choice(input, &|_| Failure::Nothing, &|l| Failure::One(Link(l)))
 }
 
 pub fn read_asked<R: Read>(input: &mut R) -> io::Result<Asked> {
-    let kind = read_byte(input)?;
-    let number = read_number(input, 8)?;
-    if kind == 0 {
-        return Ok(Asked::Start(Node(number)));
-    }
-    Ok(Asked::Arrival(Interface(number)))
+    read_choice(
+        input,
+        &|i| Asked::Start(Node(i)),
+        &|h| Asked::Arrival(Interface(h)),
+    )
 }

@@ -20,13 +20,7 @@ pub fn hash_byte(hash: u64, byte: u8) -> u64 {
 
 // The hash with all these bytes more.
 pub fn hash_bytes(hash: u64, bytes: &[u8]) -> u64 {
-    let mut sum = hash;
-    let mut i = 0;
-    while i < bytes.len() {
-        sum = hash_byte(sum, bytes[i]);
-        i += 1;
-    }
-    sum
+    bytes.iter().fold(hash, |sum, byte| hash_byte(sum, *byte))
 }
 
 // Writes the hash in 16 hexadecimal digits.

@@ -7,71 +7,48 @@ mod batch;
 mod hash;
 mod walks;
 
-use batch::{TABLE, TRACE, lent, read_asked, read_byte, read_failure, read_table};
+use batch::{TABLE, TRACE, read_asked, read_byte, read_failure, read_table, read_tables};
 use hash::{hash_bytes, print_hash};
-use net::{Failure, Interface, Node, Verdict, limit};
-use report::Figures;
+use net::{Interface, Node, PlacedRefusal, limit};
+use paths::BestPath;
+use report::Line;
 use std::io;
 use std::io::{Read, Write};
+use std::ops::ControlFlow;
+use tables::Tables;
 use text::{
-    RECORDS, Rows, UNTOUCHED, decimal, front, front_room, hex, number_and_place, read_head,
-    read_network, read_number, text,
+    Record, UNTOUCHED, answer_records, front, front_room, hex, print_told, read_network,
+    read_number,
 };
-use walk::{Asked, Stepped, Walked};
+use walk::{Stepped, Walked};
 use walks::all_walks;
 
 // The tables of networks of at most so many nodes are told in full, others by their hash alone.
 const IN_FULL: usize = 6;
 
-fn in_full(number: u8, n: usize) -> bool {
-    if number != 0 {
-        return false;
-    }
-    n <= IN_FULL
-}
-
-fn build(rows: Rows, routing: &mut [u8], forwarding: &mut [u8], backwarding: &mut [u8]) -> Verdict {
-    tables::build_tables(
-        rows.nodes,
-        rows.low(),
-        rows.high(),
-        rows.weight(),
-        routing,
-        forwarding,
-        backwarding,
-    )
-}
-
-fn print_tables<W: Write>(
-    out: &mut W,
-    routing: &[u8],
-    forwarding: &[u8],
-    backwarding: &[u8],
-) -> io::Result<()> {
-    text(out, b" ")?;
-    hex(out, routing)?;
-    text(out, b" ")?;
-    hex(out, forwarding)?;
-    text(out, b" ")?;
-    hex(out, backwarding)
+fn print_tables<W: Write>(out: &mut W, tables: &Tables<'_>) -> io::Result<()> {
+    write!(out, " ")?;
+    hex(out, tables.routing)?;
+    write!(out, " ")?;
+    hex(out, tables.forwarding)?;
+    write!(out, " ")?;
+    hex(out, tables.backwarding)
 }
 
 fn print_built<W: Write>(
     out: &mut W,
     n: usize,
-    verdict: Verdict,
-    routing: &[u8],
-    forwarding: &[u8],
-    backwarding: &[u8],
+    built: Result<(), PlacedRefusal>,
+    tables: &Tables<'_>,
 ) -> io::Result<()> {
-    text(out, b"tables ")?;
-    number_and_place(out, verdict.number, verdict.place)?;
-    text(out, b" ")?;
-    let one = hash_bytes(hash::START, routing);
-    let two = hash_bytes(one, forwarding);
-    print_hash(out, hash_bytes(two, backwarding))?;
-    if in_full(verdict.number, n) {
-        return print_tables(out, routing, forwarding, backwarding);
+    write!(out, "tables ")?;
+    print_told(out, &built)?;
+    write!(out, " ")?;
+    let one = hash_bytes(hash::START, tables.routing);
+    let two = hash_bytes(one, tables.forwarding);
+    print_hash(out, hash_bytes(two, tables.backwarding))?;
+    if built.is_ok() && n <= IN_FULL {
+        return print_tables(out, tables);
     }
     Ok(())
 }
@@ -84,203 +61,117 @@ fn tables_line<R: Read, W: Write>(input: &mut R, out: &mut W) -> io::Result<()> 
     let mut routing = [UNTOUCHED; TABLE];
     let mut forwarding = [UNTOUCHED; TABLE];
     let mut backwarding = [UNTOUCHED; TABLE];
-    let verdict = build(
-        rows,
+    let built = tables::build_tables(
+        &rows.lent(),
         front_room(&mut routing, routings),
         front_room(&mut forwarding, forwardings),
         front_room(&mut backwarding, backwardings),
     );
-    print_built(
-        out,
-        rows.nodes,
-        verdict,
-        front(&routing, routings),
-        front(&forwarding, forwardings),
-        front(&backwarding, backwardings),
-    )
+    let tables = Tables {
+        routing: front(&routing, routings),
+        forwarding: front(&forwarding, forwardings),
+        backwarding: front(&backwarding, backwardings),
+    };
+    print_built(out, rows.nodes, built, &tables)
 }
 
 fn keys_line<R: Read, W: Write>(input: &mut R, out: &mut W) -> io::Result<()> {
     let rows = read_network(input)?;
     let interface = read_number(input, 8)?;
     let destination = read_number(input, 8)?;
-    let answer = tables::key_links(
-        rows.nodes,
-        rows.low(),
-        rows.high(),
-        rows.weight(),
-        Interface(interface),
-        Node(destination),
-    );
-    text(out, b"keys ")?;
-    number_and_place(out, answer.number, answer.place)?;
-    text(out, b" ")?;
-    decimal(out, answer.links as usize)
+    let keys = tables::key_links(&rows.lent(), Interface(interface), Node(destination));
+    write!(out, "keys ")?;
+    print_told(out, &keys)?;
+    write!(out, " {}", keys.unwrap_or(0))
 }
 
 fn best_line<R: Read, W: Write>(input: &mut R, out: &mut W) -> io::Result<()> {
     let rows = read_network(input)?;
     let source = read_number(input, 8)?;
     let destination = read_number(input, 8)?;
-    let answer = paths::best_path(
-        rows.nodes,
-        rows.low(),
-        rows.high(),
-        rows.weight(),
-        Node(source),
-        Node(destination),
-    );
-    text(out, b"best ")?;
-    number_and_place(out, answer.number, answer.place)?;
-    text(out, b" sum ")?;
-    decimal(out, answer.sum as usize)?;
-    text(out, b" links ")?;
-    decimal(out, answer.links as usize)?;
-    text(out, b" entry ")?;
-    decimal(out, answer.entry as usize)
+    let best = paths::best_path(&rows.lent(), Node(source), Node(destination));
+    write!(out, "best ")?;
+    print_told(out, &best)?;
+    let BestPath { sum, links, entry } = best.unwrap_or(BestPath {
+        sum: 0,
+        links: 0,
+        entry: 0,
+    });
+    write!(out, " sum {sum} links {links} entry {entry}")
 }
 
 fn row_line<R: Read, W: Write>(input: &mut R, out: &mut W) -> io::Result<()> {
     let table = read_table(input)?;
-    let bytes = table.bytes;
     let n = read_number(input, 8)?;
     let interface = read_number(input, 8)?;
-    let number = tables::row_check(lent(&bytes, table.length), n, Interface(interface));
-    text(out, b"row ")?;
-    decimal(out, number as usize)?;
-    text(out, b" ")?;
-    hex(
-        out,
-        tables::row_of(lent(&bytes, table.length), n, Interface(interface)),
-    )
+    let number = match tables::check_row(table.lent(), n, Interface(interface)) {
+        Ok(()) => 0,
+        Err(refusal) => refusal.number(),
+    };
+    write!(out, "row {number} ")?;
+    hex(out, tables::row_of(table.lent(), n, Interface(interface)))
 }
 
-fn print_step<W: Write>(out: &mut W, answer: Stepped) -> io::Result<()> {
-    match answer {
-        Stepped::Refused(number, place) => {
-            text(out, b"step ")?;
-            number_and_place(out, number, place)?;
-            text(out, b" -")
-        }
-        Stepped::Delivered => text(out, b"step 0 at 0 delivered"),
-        Stepped::NothingToFollow => text(out, b"step 0 at 0 nothing"),
-        Stepped::Dropped => text(out, b"step 0 at 0 dropped"),
-        Stepped::Next(node, interface) => {
-            text(out, b"step 0 at 0 next ")?;
-            decimal(out, node.0)?;
-            text(out, b" ")?;
-            decimal(out, interface.0)
-        }
+fn print_stepped<W: Write>(out: &mut W, stepped: Stepped) -> io::Result<()> {
+    match stepped {
+        Stepped::Delivered => write!(out, "delivered"),
+        Stepped::NothingToFollow => write!(out, "nothing"),
+        Stepped::Dropped => write!(out, "dropped"),
+        Stepped::Next(node, interface) => write!(out, "next {} {}", node.0, interface.0),
     }
-}
-
-fn step_of(
-    rows: Rows,
-    routing: &[u8],
-    forwarding: &[u8],
-    backwarding: &[u8],
-    asked: Asked,
-    destination: usize,
-    failure: Failure,
-) -> Stepped {
-    walk::step(
-        rows.nodes,
-        rows.low(),
-        rows.high(),
-        rows.weight(),
-        routing,
-        forwarding,
-        backwarding,
-        asked,
-        Node(destination),
-        failure,
-    )
 }
 
 fn step_line<R: Read, W: Write>(input: &mut R, out: &mut W) -> io::Result<()> {
     let rows = read_network(input)?;
-    let routing = read_table(input)?;
-    let forwarding = read_table(input)?;
-    let backwarding = read_table(input)?;
-    let routing_bytes = routing.bytes;
-    let forwarding_bytes = forwarding.bytes;
-    let backwarding_bytes = backwarding.bytes;
+    let tables = read_tables(input)?;
     let asked = read_asked(input)?;
     let destination = read_number(input, 8)?;
     let failure = read_failure(input)?;
-    print_step(
-        out,
-        step_of(
-            rows,
-            lent(&routing_bytes, routing.length),
-            lent(&forwarding_bytes, forwarding.length),
-            lent(&backwarding_bytes, backwarding.length),
-            asked,
-            destination,
-            failure,
-        ),
-    )
-}
-
-fn walk_of(
-    rows: Rows,
-    routing: &[u8],
-    forwarding: &[u8],
-    backwarding: &[u8],
-    source: usize,
-    destination: usize,
-    failure: Failure,
-    limit: u8,
-    trace: &mut [u8],
-) -> Walked {
-    walk::walk(
-        rows.nodes,
-        rows.low(),
-        rows.high(),
-        rows.weight(),
-        routing,
-        forwarding,
-        backwarding,
-        Node(source),
+    let answer = walk::step(
+        &rows.lent(),
+        &tables.lent(),
+        asked,
         Node(destination),
         failure,
-        limit,
-        trace,
-    )
+    );
+    write!(out, "step ")?;
+    print_told(out, &answer)?;
+    write!(out, " ")?;
+    match answer {
+        Ok(stepped) => print_stepped(out, stepped),
+        Err(_) => write!(out, "-"),
+    }
 }
 
-fn print_walk<W: Write>(out: &mut W, answer: Walked, trace: &[u8]) -> io::Result<()> {
-    text(out, b"walk ")?;
-    number_and_place(out, answer.number, answer.place)?;
-    text(out, b" ending ")?;
-    decimal(out, answer.ending as usize)?;
-    text(out, b" hops ")?;
-    decimal(out, answer.hops)?;
-    text(out, b" trace ")?;
+fn print_walk<W: Write>(
+    out: &mut W,
+    answer: Result<Walked, PlacedRefusal>,
+    trace: &[u8],
+) -> io::Result<()> {
+    write!(out, "walk ")?;
+    print_told(out, &answer)?;
+    let (ending, hops) = match answer {
+        Ok(walked) => (walked.ending.number(), walked.hops),
+        Err(_) => (0, 0),
+    };
+    write!(out, " ending {ending} hops {hops} trace ")?;
     hex(out, trace)
 }
 
 fn walk_line<R: Read, W: Write>(input: &mut R, out: &mut W) -> io::Result<()> {
     let rows = read_network(input)?;
-    let routing = read_table(input)?;
-    let forwarding = read_table(input)?;
-    let backwarding = read_table(input)?;
-    let routing_bytes = routing.bytes;
-    let forwarding_bytes = forwarding.bytes;
-    let backwarding_bytes = backwarding.bytes;
+    let tables = read_tables(input)?;
     let source = read_number(input, 8)?;
     let destination = read_number(input, 8)?;
     let failure = read_failure(input)?;
     let limit = read_byte(input)?;
     let length = read_number(input, 2)?;
     let mut trace = [UNTOUCHED; TRACE];
-    let answer = walk_of(
-        rows,
-        lent(&routing_bytes, routing.length),
-        lent(&forwarding_bytes, forwarding.length),
-        lent(&backwarding_bytes, backwarding.length),
-        source,
-        destination,
+    let answer = walk::walk(
+        &rows.lent(),
+        &tables.lent(),
+        Node(source),
+        Node(destination),
         failure,
         limit,
         front_room(&mut trace, length),
@@ -288,90 +179,54 @@ fn walk_line<R: Read, W: Write>(input: &mut R, out: &mut W) -> io::Result<()> {
     print_walk(out, answer, front(&trace, length))
 }
 
-fn all_walks_of(rows: Rows, routing: &[u8], forwarding: &[u8], backwarding: &[u8]) -> u64 {
-    all_walks(
-        rows.nodes,
-        rows.low(),
-        rows.high(),
-        rows.weight(),
-        routing,
-        forwarding,
-        backwarding,
-    )
-}
-
 fn all_line<R: Read, W: Write>(input: &mut R, out: &mut W) -> io::Result<()> {
     let rows = read_network(input)?;
+    let network = rows.lent();
     let mut routing = [0u8; limit::PAIRS];
     let mut forwarding = [0u8; 2 * limit::LINKS * limit::NODES];
     let mut backwarding = [0u8; 2 * limit::LINKS * limit::NODES];
-    let verdict = build(rows, &mut routing, &mut forwarding, &mut backwarding);
-    text(out, b"all ")?;
-    number_and_place(out, verdict.number, verdict.place)?;
-    text(out, b" ")?;
-    if verdict.number != 0 {
-        return text(out, b"-");
+    let built = tables::build_tables(&network, &mut routing, &mut forwarding, &mut backwarding);
+    write!(out, "all ")?;
+    print_told(out, &built)?;
+    write!(out, " ")?;
+    if built.is_err() {
+        return write!(out, "-");
     }
-    print_hash(out, all_walks_of(rows, &routing, &forwarding, &backwarding))
-}
-
-fn figures_of(
-    rows: Rows,
-    routing: &[u8],
-    forwarding: &[u8],
-    backwarding: &[u8],
-    failure: Failure,
-) -> Figures {
-    report::failure_line(
-        rows.nodes,
-        rows.low(),
-        rows.high(),
-        rows.weight(),
-        routing,
-        forwarding,
-        backwarding,
-        failure,
-    )
-}
-
-fn print_figures<W: Write>(out: &mut W, answer: Figures) -> io::Result<()> {
-    let line = answer.line;
-    text(out, b"figures ")?;
-    number_and_place(out, answer.number, answer.place)?;
-    text(out, b" ")?;
-    decimal(out, line.delivered)?;
-    text(out, b" ")?;
-    decimal(out, line.dropped)?;
-    text(out, b" ")?;
-    decimal(out, line.hops)?;
-    text(out, b" ")?;
-    decimal(out, line.longest)
+    let tables = Tables {
+        routing: &routing,
+        forwarding: &forwarding,
+        backwarding: &backwarding,
+    };
+    print_hash(out, all_walks(&network, &tables))
 }
 
 fn figures_line<R: Read, W: Write>(input: &mut R, out: &mut W) -> io::Result<()> {
     let rows = read_network(input)?;
-    let routing = read_table(input)?;
-    let forwarding = read_table(input)?;
-    let backwarding = read_table(input)?;
-    let routing_bytes = routing.bytes;
-    let forwarding_bytes = forwarding.bytes;
-    let backwarding_bytes = backwarding.bytes;
+    let tables = read_tables(input)?;
     let failure = read_failure(input)?;
-    print_figures(
+    let answer = report::failure_line(&rows.lent(), &tables.lent(), failure);
+    write!(out, "figures ")?;
+    print_told(out, &answer)?;
+    let line = answer.unwrap_or(Line {
+        delivered: 0,
+        dropped: 0,
+        hops: 0,
+        longest: 0,
+    });
+    write!(
         out,
-        figures_of(
-            rows,
-            lent(&routing_bytes, routing.length),
-            lent(&forwarding_bytes, forwarding.length),
-            lent(&backwarding_bytes, backwarding.length),
-            failure,
-        ),
+        " {} {} {} {}",
+        line.delivered, line.dropped, line.hops, line.longest
     )
 }
 
-// Answers one record of this kind: false for a byte that is no kind.
-fn answer<R: Read, W: Write>(input: &mut R, out: &mut W, kind: u8) -> io::Result<bool> {
-    match kind {
+// Answers one record; a byte that is no kind ends the run.
+fn answer<R: Read, W: Write>(
+    input: &mut R,
+    out: &mut W,
+    record: Record,
+) -> io::Result<ControlFlow<()>> {
+    match record.kind {
         b'T' => tables_line(input, out)?,
         b'K' => keys_line(input, out)?,
         b'B' => best_line(input, out)?,
@@ -380,32 +235,14 @@ fn answer<R: Read, W: Write>(input: &mut R, out: &mut W, kind: u8) -> io::Result
         b'W' => walk_line(input, out)?,
         b'A' => all_line(input, out)?,
         b'F' => figures_line(input, out)?,
-        _ => return Ok(false),
+        _ => return Ok(ControlFlow::Break(())),
     }
-    text(out, b"\n")?;
-    Ok(true)
-}
-
-fn record<R: Read, W: Write>(input: &mut R, out: &mut W) -> io::Result<bool> {
-    let Some(head) = read_head(input)? else {
-        return Ok(false);
-    };
-    answer(input, out, head.kind)
-}
-
-fn answer_records<R: Read, W: Write>(input: &mut R, out: &mut W) -> io::Result<()> {
-    let mut left = RECORDS;
-    while 0 < left {
-        if !record(input, out)? {
-            return Ok(());
-        }
-        left -= 1;
-    }
-    Ok(())
+    writeln!(out)?;
+    Ok(ControlFlow::Continue(()))
 }
 
 fn main(rt: HostRuntime) -> io::Result<()> {
     let mut input = rt.stdin();
     let mut out = rt.stdout();
-    answer_records(&mut input, &mut out)
+    answer_records(&mut input, &mut out, answer)
 }

@@ -2,141 +2,52 @@
 use crate::batch::{HOPS, VISITED};
 use crate::hash;
 use crate::hash::{hash_byte, hash_bytes};
-use net::{Failure, Link, Node};
+use net::{Failure, LentRows, Link, Node};
 use std::num::wrapping_add_usize;
+use tables::Tables;
 use text::front;
 
 fn one_walk(
     sum: u64,
-    n: usize,
-    low: &[u8],
-    high: &[u8],
-    weight: &[u32],
-    routing: &[u8],
-    forwarding: &[u8],
-    backwarding: &[u8],
+    network: &LentRows<'_>,
+    tables: &Tables<'_>,
     failure: Failure,
-    s: usize,
-    d: usize,
+    source: Node,
+    destination: Node,
 ) -> u64 {
     let mut trace = [0u8; VISITED];
     let walked = walk::walk(
-        n,
-        low,
-        high,
-        weight,
-        routing,
-        forwarding,
-        backwarding,
-        Node(s),
-        Node(d),
+        network,
+        tables,
+        source,
+        destination,
         failure,
         HOPS,
         &mut trace,
     );
-    let ended = hash_byte(sum, walked.ending);
-    let counted = hash_byte(ended, (walked.hops % 256) as u8);
-    hash_bytes(counted, front(&trace, wrapping_add_usize(walked.hops, 1)))
+    let (ending, hops) = match walked {
+        Ok(walked) => (walked.ending.number(), walked.hops),
+        Err(_) => (0, 0),
+    };
+    let ended = hash_byte(sum, ending);
+    let counted = hash_byte(ended, (hops % 256) as u8);
+    hash_bytes(counted, front(&trace, wrapping_add_usize(hops, 1)))
 }
 
-fn walks_from(
-    sum: u64,
-    n: usize,
-    low: &[u8],
-    high: &[u8],
-    weight: &[u32],
-    routing: &[u8],
-    forwarding: &[u8],
-    backwarding: &[u8],
-    failure: Failure,
-    s: usize,
-) -> u64 {
+fn walks_past(sum: u64, network: &LentRows<'_>, tables: &Tables<'_>, failure: Failure) -> u64 {
     let mut hash = sum;
-    let mut d: usize = 0;
-    while d < n {
-        hash = one_walk(
-            hash,
-            n,
-            low,
-            high,
-            weight,
-            routing,
-            forwarding,
-            backwarding,
-            failure,
-            s,
-            d,
-        );
-        d += 1;
+    for s in 0..network.nodes {
+        for d in 0..network.nodes {
+            hash = one_walk(hash, network, tables, failure, Node(s), Node(d));
+        }
     }
     hash
 }
 
-fn walks_past(
-    sum: u64,
-    n: usize,
-    low: &[u8],
-    high: &[u8],
-    weight: &[u32],
-    routing: &[u8],
-    forwarding: &[u8],
-    backwarding: &[u8],
-    failure: Failure,
-) -> u64 {
-    let mut hash = sum;
-    let mut s: usize = 0;
-    while s < n {
-        hash = walks_from(
-            hash,
-            n,
-            low,
-            high,
-            weight,
-            routing,
-            forwarding,
-            backwarding,
-            failure,
-            s,
-        );
-        s += 1;
-    }
-    hash
-}
-
-pub fn all_walks(
-    n: usize,
-    low: &[u8],
-    high: &[u8],
-    weight: &[u32],
-    routing: &[u8],
-    forwarding: &[u8],
-    backwarding: &[u8],
-) -> u64 {
-    let mut hash = walks_past(
-        hash::START,
-        n,
-        low,
-        high,
-        weight,
-        routing,
-        forwarding,
-        backwarding,
-        Failure::Nothing,
-    );
-    let mut k: usize = 0;
-    while k < low.len() {
-        hash = walks_past(
-            hash,
-            n,
-            low,
-            high,
-            weight,
-            routing,
-            forwarding,
-            backwarding,
-            Failure::One(Link(k)),
-        );
-        k += 1;
+pub fn all_walks(network: &LentRows<'_>, tables: &Tables<'_>) -> u64 {
+    let mut hash = walks_past(hash::START, network, tables, Failure::Nothing);
+    for k in 0..network.low.len() {
+        hash = walks_past(hash, network, tables, Failure::One(Link(k)));
     }
     hash
 }

@@ -3,167 +3,116 @@
 // Anything else ends the run.
 #![tactic(auto)]
 
-use net::{end_at, limit};
+use net::{LentRows, end_at, limit};
 use std::io;
 use std::io::{Read, Write};
+use std::ops::ControlFlow;
 use text::{
-    RECORDS, SPARE, UNTOUCHED, decimal, front, front_room, hex, number_and_place, read, read_head,
-    read_network, read_number, text,
+    Record, SPARE, UNTOUCHED, answer_records, front, front_room, hex, print_refused, print_told,
+    read, read_network, read_number,
 };
 
 // The longest stored plan of a record, and the longest room for one: 2 + 3 * LINKS numbers of three groups each, and what is to spare.
 const PLAN: usize = 3 * (2 + 3 * limit::LINKS) + SPARE;
 
-fn print_weight<W: Write>(out: &mut W, weight: u32) -> io::Result<()> {
-    decimal(out, weight as usize)
-}
-
-fn print_links<W: Write>(out: &mut W, low: &[u8], high: &[u8], weight: &[u32]) -> io::Result<()> {
-    let mut k = 0;
-    while k < weight.len() {
-        text(out, b" ")?;
-        decimal(out, end_at(low, k))?;
-        text(out, b"-")?;
-        decimal(out, end_at(high, k))?;
-        text(out, b":")?;
-        print_weight(out, weight[k])?;
-        k += 1;
+fn print_links<W: Write>(out: &mut W, network: &LentRows<'_>) -> io::Result<()> {
+    for (k, weight) in network.weight.iter().enumerate() {
+        let low = end_at(network.low, k);
+        let high = end_at(network.high, k);
+        write!(out, " {low}-{high}:{weight}")?;
     }
     Ok(())
 }
 
-fn print_written<W: Write>(
-    out: &mut W,
-    n: usize,
-    low: &[u8],
-    high: &[u8],
-    weight: &[u32],
-) -> io::Result<()> {
+// The plan that the writer makes, and its refusal of a room one byte shorter.
+fn print_written<W: Write>(out: &mut W, network: &LentRows<'_>) -> io::Result<()> {
     let mut room = [0u8; PLAN];
-    let written = plan::write_plan(n, low, high, weight, &mut room);
-    let count = written.count;
-    if count == 0 {
+    let Ok(count) = plan::write_plan(network, &mut room) else {
         return Ok(());
-    }
-    text(out, b" plan ")?;
+    };
+    write!(out, " plan ")?;
     hex(out, front(&room, count))?;
     let mut small = [0u8; PLAN];
-    let refused = plan::write_plan(n, low, high, weight, front_room(&mut small, count - 1));
-    text(out, b" short ")?;
-    decimal(out, refused.number as usize)
+    let shorter = front_room(&mut small, count.saturating_sub(1));
+    let number = match plan::write_plan(network, shorter) {
+        Ok(_) => 0,
+        Err(refused) => refused.refusal.number(),
+    };
+    write!(out, " short {number}")
 }
 
-fn print_network<W: Write>(
-    out: &mut W,
-    n: usize,
-    low: &[u8],
-    high: &[u8],
-    weight: &[u32],
-) -> io::Result<()> {
-    text(out, b"nodes ")?;
-    decimal(out, n)?;
-    text(out, b" links ")?;
-    decimal(out, weight.len())?;
-    print_links(out, low, high, weight)?;
-    print_written(out, n, low, high, weight)
-}
-
-fn print_plan<W: Write>(out: &mut W, s: &[u8]) -> io::Result<()> {
-    let reading = plan::read_plan(s);
-    if reading.number != 0 {
-        text(out, b"refused ")?;
-        return number_and_place(out, reading.number, reading.place);
-    }
-    let network = reading.network;
-    let links = network.links;
-    let low = network.low;
-    let high = network.high;
-    let weight = network.weight;
-    print_network(
+fn print_network<W: Write>(out: &mut W, network: &LentRows<'_>) -> io::Result<()> {
+    write!(
         out,
+        "nodes {} links {}",
         network.nodes,
-        front(&low, links),
-        front(&high, links),
-        front(&weight, links),
-    )
+        network.weight.len()
+    )?;
+    print_links(out, network)?;
+    print_written(out, network)
 }
 
-fn plan_record<R: Read, W: Write>(input: &mut R, out: &mut W, length: usize) -> io::Result<bool> {
+fn print_plan<W: Write>(out: &mut W, bytes: &[u8]) -> io::Result<()> {
+    match plan::read_plan(bytes) {
+        Ok(network) => print_network(out, &network.lent()),
+        Err(refused) => print_refused(out, refused),
+    }
+}
+
+fn plan_record<R: Read, W: Write>(
+    input: &mut R,
+    out: &mut W,
+    length: usize,
+) -> io::Result<ControlFlow<()>> {
     let mut bytes = [0u8; PLAN];
     if bytes.len() < length {
-        return Ok(false);
+        return Ok(ControlFlow::Break(()));
     }
     if !read(input, front_room(&mut bytes, length))? {
-        return Ok(false);
+        return Ok(ControlFlow::Break(()));
     }
     print_plan(out, front(&bytes, length))?;
-    text(out, b"\n")?;
-    Ok(true)
+    writeln!(out)?;
+    Ok(ControlFlow::Continue(()))
 }
 
-fn print_checks<W: Write>(
-    out: &mut W,
-    n: usize,
-    low: &[u8],
-    high: &[u8],
-    weight: &[u32],
-    room: &mut [u8],
-) -> io::Result<()> {
-    let verdict = net::check_network(n, low, high, weight);
-    text(out, b"network ")?;
-    number_and_place(out, verdict.number, verdict.place)?;
-    let written = plan::write_plan(n, low, high, weight, room);
-    text(out, b" write ")?;
-    number_and_place(out, written.number, written.place)?;
-    text(out, b" count ")?;
-    decimal(out, written.count)?;
-    text(out, b" room ")?;
+fn print_checks<W: Write>(out: &mut W, network: &LentRows<'_>, room: &mut [u8]) -> io::Result<()> {
+    write!(out, "network ")?;
+    print_told(out, &net::check_network(network))?;
+    let written = plan::write_plan(network, room);
+    write!(out, " write ")?;
+    print_told(out, &written)?;
+    write!(out, " count {} room ", written.unwrap_or(0))?;
     hex(out, room)?;
-    text(out, b"\n")
+    writeln!(out)
 }
 
-fn network_record<R: Read, W: Write>(input: &mut R, out: &mut W) -> io::Result<bool> {
+fn network_record<R: Read, W: Write>(input: &mut R, out: &mut W) -> io::Result<ControlFlow<()>> {
     let rows = read_network(input)?;
     let length = read_number(input, 2)?;
     let mut room = [UNTOUCHED; PLAN];
     if room.len() < length {
-        return Ok(false);
+        return Ok(ControlFlow::Break(()));
     }
-    print_checks(
-        out,
-        rows.nodes,
-        rows.low(),
-        rows.high(),
-        rows.weight(),
-        front_room(&mut room, length),
-    )?;
-    Ok(true)
+    print_checks(out, &rows.lent(), front_room(&mut room, length))?;
+    Ok(ControlFlow::Continue(()))
 }
 
-fn record<R: Read, W: Write>(input: &mut R, out: &mut W) -> io::Result<bool> {
-    let Some(head) = read_head(input)? else {
-        return Ok(false);
-    };
-    match head.kind {
-        b'P' => plan_record(input, out, head.length),
+// Answers one record; one that is none of these ends the run.
+fn answer<R: Read, W: Write>(
+    input: &mut R,
+    out: &mut W,
+    record: Record,
+) -> io::Result<ControlFlow<()>> {
+    match record.kind {
+        b'P' => plan_record(input, out, record.length),
         b'N' => network_record(input, out),
-        _ => Ok(false),
+        _ => Ok(ControlFlow::Break(())),
     }
-}
-
-fn answer_records<R: Read, W: Write>(input: &mut R, out: &mut W) -> io::Result<()> {
-    let mut left = RECORDS;
-    while 0 < left {
-        if !record(input, out)? {
-            return Ok(());
-        }
-        left -= 1;
-    }
-    Ok(())
 }
 
 fn main(rt: HostRuntime) -> io::Result<()> {
     let mut input = rt.stdin();
     let mut out = rt.stdout();
-    answer_records(&mut input, &mut out)
+    answer_records(&mut input, &mut out, answer)
 }

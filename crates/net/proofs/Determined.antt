@@ -6,20 +6,23 @@ use Prim.Native.Nat.{ℕ}
 use Rattle.net.specs.declared.interface.Node.{Node}
 use Rattle.net.specs.declared.interface.Link.{Link}
 use Rattle.net.specs.declared.interface.Interface.{Interface}
+use Rattle.net.specs.Told.{unplaced as placed_nowhere}
+use Rattle.net.specs.declared.refusal.Refusal.{Refusal}
+use Rattle.net.specs.declared.refusal.PlacedRefusal.{PlacedRefusal}
+use Rattle.net.proofs.Told.{told_once, number_told_once}
+use Rattle.net.proofs.failure.check_failure.Reads as check_failure_contract
 use Rattle.net.proofs.check.check_network.Reads as check_network_contract
 use Rattle.net.proofs.check.descends.Reads as descends_contract
 use Rattle.net.proofs.check.lighter_twin.Reads as lighter_twin_contract
 use Rattle.net.proofs.check.end_at.Reads as end_at_contract
 use Rattle.net.proofs.check.bad_weight.Reads as bad_weight_contract
 use Rattle.net.proofs.check.bad_node_count.Reads as bad_node_count_contract
-use Rattle.net.proofs.check.unplaced.Reads as unplaced_contract
 use Rattle.net.proofs.entry.onward.Reads as onward_contract
 use Rattle.net.proofs.failure.fails.Reads as fails_contract
 use Rattle.net.proofs.failure.blocked.Reads as blocked_contract
-use Rattle.net.proofs.failure.failure_number.Reads as failure_number_contract
 use Rattle.net.proofs.interface.link_of.Reads as link_of_contract
-use Rattle.net.proofs.interface.tail_of.Reads as tail_of_contract
-use Rattle.net.proofs.interface.head_of.Reads as head_of_contract
+use Rattle.net.proofs.lent_rows.LentRows.tail_of.Reads as tail_of_contract
+use Rattle.net.proofs.lent_rows.LentRows.head_of.Reads as head_of_contract
 use Rattle.net.proofs.interface.reverse_of.Reads as reverse_of_contract
 
 -- A contract is read as what it tells a caller (`Learnt`, from the source's `ensures`) of the inputs, the answer and the lent values
@@ -42,7 +45,10 @@ pub agree {ℓ} : {A : Type ℓ} {x y z : A} → x ≡ z → y ≡ z → x ≡ y
 agree p q = p ∙ sym q
 
 pub check_network : Determined check_network_contract.Learnt
-check_network a inputs x y e f p q = agree p q
+check_network a inputs x y e f p q = told_once x y (agree p q)
+
+pub check_failure : Determined check_failure_contract.Learnt
+check_failure a inputs x y e f p q = number_told_once x y (agree p q)
 
 pub descends : Determined descends_contract.Learnt
 descends a inputs x y e f p q = agree p q
@@ -59,9 +65,6 @@ bad_weight a inputs x y e f p q = agree p q
 pub bad_node_count : Determined bad_node_count_contract.Learnt
 bad_node_count a inputs x y e f p q = agree p q
 
-pub unplaced : Determined unplaced_contract.Learnt
-unplaced a inputs x y e f p q = agree p q
-
 pub onward : Determined onward_contract.Learnt
 onward a inputs x y e f p q = agree p q
 
@@ -71,8 +74,9 @@ fails a inputs x y e f p q = agree p q
 pub blocked : Determined blocked_contract.Learnt
 blocked a inputs x y e f p q = agree p q
 
-pub failure_number : Determined failure_number_contract.Learnt
-failure_number a inputs x y e f p q = agree p q
+-- a refusal that names no place, by the law of its conversion
+pub unplaced : (refusal : Refusal) {x y : PlacedRefusal} → x ≡ placed_nowhere refusal → y ≡ placed_nowhere refusal → x ≡ y
+unplaced refusal p q = agree p q
 
 -- a link, a node and an interface are their number
 abbrev link_numbered : ℕ → Link

@@ -9,3 +9,5 @@ pub mod Determined
 pub mod Verdicts
 pub mod Bytes
 pub mod Overwrite
+pub mod Told
+pub mod Pairs

@@ -7,7 +7,7 @@ use Rattle.net.specs.Refusals.{accepted}
 use Rattle.net.specs.Rows.{Rows}
 use Rattle.net.specs.Check.{check_network}
 use Rattle.net.specs.Refused.{Refused}
-use Rattle.net.specs.declared.check.Verdict.{Verdict}
+use Rattle.net.specs.Verdict.{Verdict}
 use Rattle.net.proofs.Stages as stages
 
 abbrev number_of : Verdict → ℕ

@@ -7,7 +7,7 @@ use native.Mathlib.Decide.{ℕ_discrete}
 use borrow.Author.Tests.{eq-eqb, ne_eqb}
 use Rattle.net.specs.Refusals.{accepted}
 use Rattle.net.specs.Check.{verdict, or_else, first_number, refused_if}
-use Rattle.net.specs.declared.check.Verdict.{Verdict}
+use Rattle.net.specs.Verdict.{Verdict}
 
 module _ (first second : Verdict) where
   -- the first check is passed: the second decides

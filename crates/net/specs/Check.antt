@@ -8,7 +8,7 @@ use Rattle.net.specs.Refusals.{accepted, node_count, link_count, link_ends, link
 use Rattle.net.specs.Choice.{pick, either, both}
 use Rattle.net.specs.Rows.{Rows}
 use Rattle.net.specs.declared.check.Span.{Span}
-use Rattle.net.specs.declared.check.Verdict.{Verdict}
+use Rattle.net.specs.Verdict.{Verdict}
 
 -- "low end not a node, low end not below high end, or high end not a node"
 unfoldable pub bad_ends : ℕ → ℕ → ℕ → Bool

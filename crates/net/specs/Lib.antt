@@ -2,6 +2,9 @@ pub mod Choice
 pub mod Limits
 pub mod Refusals
 pub mod Rows
+pub mod Lent
+pub mod Verdict
+pub mod Told
 pub mod Entry
 pub mod Failure
 pub mod Check

@@ -33,3 +33,7 @@ tail_of low high f = by_direction (f % 2) (get_or low (link f) 0) (get_or high (
 
 abbrev pub head_of : List ℕ → List ℕ → ℕ → ℕ
 head_of low high = tail_of high low
+
+-- the same links, each from its other end
+abbrev pub turned : Rows → Rows
+turned R = record { nodes = R.nodes; low = R.high; high = R.low; weight = R.weight }

@@ -1,4 +1,5 @@
-// The byte of an entry: a link by its number, or one of two bytes that are no links, here and nowhere else in code.
+// The byte of an entry: a link by its number, or one of two bytes that are no links, here and nowhere else in code. Tables are lent as
+// bytes ("An entry is one byte"), so these stay numbers: an enum would only be turned into them at each place that fills or checks a table.
 ghost use Rattle.std.specs.Prelude.{◌≡◌};
 ghost use Rattle.graph.specs.Network.{link};
 
@@ -11,6 +12,7 @@ pub const HERE: u8 = 254;
 pub const NOWHERE: u8 = 255;
 
 // An entry that leads onward by interface `first` names its link.
+#[tactic(auto, unfolding(graph::specs::Network::link))]
 pub fn onward(first: u8) -> u8
     ensures { result ≡ link first }
 {

@@ -2,11 +2,12 @@
 ghost use Rattle.std.specs.Prelude.{◌≡◌};
 ghost use Rattle.graph.specs.Network.{link};
 ghost use Rattle.net.specs.Failure.{fails as fails_by, failure_number};
+ghost use Rattle.net.specs.Told.{number_told};
 
 use crate::interface::{Interface, Link, link_of};
-use crate::refusal;
+use crate::refusal::Refusal;
 
-// "A failure is either none or one link by number."
+// "A failure is either none or one link by number": an enum and no Option, as document 01 names the form (docs/FORMS.md).
 #[derive(Clone, Copy)]
 pub enum Failure {
     Nothing,
@@ -14,12 +15,13 @@ pub enum Failure {
 }
 
 // Whether the failure has the link.
+#[tactic(auto, unfolding(crate::specs::Failure::fails))]
 pub fn fails(failure: Failure, link: Link) -> bool
     ensures { result ≡ fails_by failure link.0 }
 {
     match failure {
         Failure::Nothing => false,
-        Failure::One(l) => link.0 == l.0,
+        Failure::One(l) => link == l,
     }
 }
 
@@ -30,17 +32,18 @@ pub fn blocked(failure: Failure, f: Interface) -> bool
     fails(failure, link_of(f))
 }
 
-// 12, or 0, of a network with so many links.
-pub fn failure_number(links: usize, failure: Failure) -> u8
-    ensures { result ≡ failure_number links failure }
+// 12, of a network with so many links, where the failure names none of them.
+#[tactic(auto, using(std::proofs::lemmas::Bool::Decides::nat_tests), unfolding(crate::specs::Failure::failure_number))]
+pub fn check_failure(links: usize, failure: Failure) -> Result<(), Refusal>
+    ensures { number_told result ≡ failure_number links failure }
 {
     match failure {
-        Failure::Nothing => refusal::NONE,
+        Failure::Nothing => Ok(()),
         Failure::One(l) => {
             if links <= l.0 {
-                return refusal::FAILED_LINK;
+                return Err(Refusal::FailedLink);
             }
-            refusal::NONE
+            Ok(())
         }
     }
 }

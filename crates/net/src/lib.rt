@@ -6,24 +6,16 @@ mod check;
 pub mod entry;
 mod failure;
 mod interface;
+mod lent_rows;
 pub mod limit;
-pub mod link_set;
-pub mod refusal;
+mod link_set;
+mod refusal;
 
 pub use check::{
-    Span, Verdict, bad_node_count, bad_weight, check_network, descends, end_at, lighter_twin,
-    unplaced,
+    ORIGIN, Span, bad_node_count, bad_weight, check_network, descends, end_at, lighter_twin,
 };
-pub use failure::{Failure, blocked, fails, failure_number};
-pub use interface::{Interface, Link, Node, head_of, link_of, reverse_of, tail_of};
+pub use failure::{Failure, blocked, check_failure, fails};
+pub use interface::{Interface, Link, Node, link_of, reverse_of};
+pub use lent_rows::{LentRows, Network};
 pub use link_set::LinkSet;
-
-// The network that a reader's answer holds: the rows' places past the last link are 0.
-#[derive(Clone, Copy)]
-pub struct Network {
-    pub nodes: usize,
-    pub links: usize,
-    pub low: [u8; limit::LINKS],
-    pub high: [u8; limit::LINKS],
-    pub weight: [u32; limit::LINKS],
-}
+pub use refusal::{PlacedRefusal, Refusal};

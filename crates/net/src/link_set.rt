@@ -8,58 +8,66 @@ use crate::interface::Link;
 use crate::limit;
 
 // Bit k of the word is 1 exactly if link k is in the set.
-#[derive(Clone, Copy)]
+#[derive(Clone, Copy, PartialEq, Eq)]
 pub struct LinkSet {
     pub word: u64,
 }
 
-pub fn empty() -> LinkSet
-    ensures { result ≡ no_links }
-{
-    LinkSet { word: 0 }
-}
-
-pub fn with_link(set: LinkSet, link: Link) -> LinkSet
-    requires { link.0 < most_links }
-    ensures { result ≡ with_link set link.0 }
-{
-    LinkSet {
-        word: set.word | (1 << link.0),
+impl LinkSet {
+    #[tactic(auto, unfolding(crate::specs::inner::LinkSet::no_links))]
+    pub fn empty() -> LinkSet
+        ensures { result ≡ no_links }
+    {
+        LinkSet { word: 0 }
     }
-}
 
-pub fn has_link(set: LinkSet, link: Link) -> bool
-    ensures { result ≡ has_link set link.0 }
-{
-    if limit::LINKS <= link.0 {
-        return false;
+    pub fn with_link(self, link: Link) -> LinkSet
+        requires { link.0 < most_links }
+        ensures { result ≡ with_link self link.0 }
+    {
+        LinkSet {
+            word: self.word | (1 << link.0),
+        }
     }
-    (set.word >> link.0) % 2 == 1
-}
 
-pub fn is_empty(set: LinkSet) -> bool
-    ensures { result ≡ is_empty set }
-{
-    set.word == 0
-}
+    #[tactic(auto, unfolding(crate::specs::inner::LinkSet::has_link, crate::specs::inner::LinkSet::value))]
+    pub fn has_link(self, link: Link) -> bool
+        ensures { result ≡ has_link self link.0 }
+    {
+        if limit::LINKS <= link.0 {
+            return false;
+        }
+        (self.word >> link.0) % 2 == 1
+    }
 
-// Whether the first lacks the highest link that is in only one of them.
-pub fn comes_before(a: LinkSet, b: LinkSet) -> bool
-    ensures { result ≡ comes_before a b }
-{
-    a.word < b.word
-}
+    #[tactic(auto, unfolding(crate::specs::inner::LinkSet::is_empty, crate::specs::inner::LinkSet::value))]
+    pub fn is_empty(self) -> bool
+        ensures { result ≡ is_empty self }
+    {
+        self.word == 0
+    }
 
-// Whether the two have a link in common.
-pub fn meets(a: LinkSet, b: LinkSet) -> bool
-    ensures { result ≡ meeting a b }
-{
-    a.word & b.word != 0
-}
+    // Whether this one lacks the highest link that is in only one of the two.
+    #[tactic(auto, unfolding(crate::specs::inner::LinkSet::comes_before, crate::specs::inner::LinkSet::value))]
+    pub fn comes_before(self, other: LinkSet) -> bool
+        ensures { result ≡ comes_before self other }
+    {
+        self.word < other.word
+    }
 
-// The set as the number that public answers carry.
-pub fn number_of(set: LinkSet) -> u64
-    ensures { result ≡ value set }
-{
-    set.word
+    // Whether the two have a link in common.
+    #[tactic(auto, unfolding(crate::specs::inner::LinkSet::meeting, crate::specs::inner::LinkSet::value))]
+    pub fn meets(self, other: LinkSet) -> bool
+        ensures { result ≡ meeting self other }
+    {
+        self.word & other.word != 0
+    }
+
+    // The set as the number that public answers carry.
+    #[tactic(auto, unfolding(crate::specs::inner::LinkSet::value))]
+    pub fn number(self) -> u64
+        ensures { result ≡ value self }
+    {
+        self.word
+    }
 }

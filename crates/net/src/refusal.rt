@@ -1,34 +1,58 @@
-// The refusal numbers of document 01 by name, here and nowhere else in code. specs/Refusals.antt says the same to the contracts.
-pub const NONE: u8 = 0;
+// The refusals of document 01 by name and number, here and nowhere else in code. specs/Refusals.antt says the same numbers to the
+// contracts, and specs/Told.antt which of them each refusal has.
+ghost use Rattle.std.specs.Prelude.{◌≡◌};
+ghost use Rattle.net.specs.Told.{number_of, unplaced};
 
-pub const BYTES_END: u8 = 1;
+#[derive(Clone, Copy, PartialEq, Eq)]
+pub enum Refusal {
+    BytesEnd = 1,
+    NumberForm = 2,
+    NodeCount = 3,
+    LinkCount = 4,
+    LinkEnds = 5,
+    LinkWeight = 6,
+    LinkOrder = 7,
+    BytesLeft = 8,
+    RowLengths = 9,
+    Room = 10,
+    NodeNumber = 11,
+    FailedLink = 12,
+    InterfaceNumber = 13,
+    TableLength = 14,
+    TraceLength = 15,
+    TableEntry = 16,
+}
 
-pub const NUMBER_FORM: u8 = 2;
+impl Refusal {
+    pub fn number(self) -> u8
+        ensures { result ≡ number_of self }
+    {
+        self as u8
+    }
 
-pub const NODE_COUNT: u8 = 3;
+    // With a place.
+    pub fn at(self, place: usize) -> PlacedRefusal
+        ensures { result ≡ record { refusal = self; place = place } }
+    {
+        PlacedRefusal {
+            refusal: self,
+            place,
+        }
+    }
+}
 
-pub const LINK_COUNT: u8 = 4;
+// A refusal with its place.
+#[derive(Clone, Copy, PartialEq, Eq)]
+pub struct PlacedRefusal {
+    pub refusal: Refusal,
+    pub place: usize,
+}
 
-pub const LINK_ENDS: u8 = 5;
+// A refusal that names no place has place 0.
+impl From<Refusal> for PlacedRefusal {
+    ghost from_gives = { λ refusal refused. refused ≡ unplaced refusal };
 
-pub const LINK_WEIGHT: u8 = 6;
-
-pub const LINK_ORDER: u8 = 7;
-
-pub const BYTES_LEFT: u8 = 8;
-
-pub const ROW_LENGTHS: u8 = 9;
-
-pub const ROOM: u8 = 10;
-
-pub const NODE_NUMBER: u8 = 11;
-
-pub const FAILED_LINK: u8 = 12;
-
-pub const INTERFACE_NUMBER: u8 = 13;
-
-pub const TABLE_LENGTH: u8 = 14;
-
-pub const TRACE_LENGTH: u8 = 15;
-
-pub const TABLE_ENTRY: u8 = 16;
+    fn from(refusal: Refusal) -> PlacedRefusal {
+        refusal.at(0)
+    }
+}

@@ -2,124 +2,80 @@
 #![tactic(auto)]
 
 use naming::print_failure;
-use net::{Failure, Link, limit};
+use net::{Failure, LentRows, Link, Network, PlacedRefusal, limit};
 use report::{Line, Lines};
 use std::io;
 use std::io::{Read, Write};
-use text::{decimal, front, number_and_place, read_front, text};
+use tables::Tables;
+use text::{front, print_refused, read_front};
 
 // The bytes of the input that are kept: as many as the longest plan has, and one more, which shows that bytes are left. From these an
 // input gets the reader's answer to all of it (`reads_first` in `plan`).
 const KEPT: usize = plan::LONGEST + 1;
 
-fn print_refusal<W: Write>(out: &mut W, number: u8, place: usize) -> io::Result<()> {
-    text(out, b"refused ")?;
-    number_and_place(out, number, place)?;
-    text(out, b"\n")
-}
-
 fn print_line<W: Write>(out: &mut W, line: Line) -> io::Result<()> {
-    text(out, b" delivered ")?;
-    decimal(out, line.delivered)?;
-    text(out, b" dropped ")?;
-    decimal(out, line.dropped)?;
-    text(out, b" hops ")?;
-    decimal(out, line.hops)?;
-    text(out, b" longest ")?;
-    decimal(out, line.longest)?;
-    text(out, b"\n")
+    writeln!(
+        out,
+        " delivered {} dropped {} hops {} longest {}",
+        line.delivered, line.dropped, line.hops, line.longest
+    )
 }
 
 // The line of each link's failure: that of link k stands at k + 1.
 fn print_links<W: Write>(
     out: &mut W,
-    low: &[u8],
-    high: &[u8],
-    lines: [Line; limit::LINKS + 1],
+    network: &LentRows<'_>,
+    lines: &[Line; limit::LINKS + 1],
 ) -> io::Result<()> {
-    let mut k: usize = 0;
-    while k < low.len() {
-        let next = k + 1;
-        if limit::LINKS < next {
-            return Ok(());
-        }
-        print_failure(out, low, high, Failure::One(Link(k)))?;
-        print_line(out, lines[next])?;
-        k = next;
+    for k in 0..network.low.len().min(limit::LINKS) {
+        print_failure(out, network, Failure::One(Link(k)))?;
+        print_line(out, lines[k + 1])?;
     }
     Ok(())
 }
 
-fn print_lines<W: Write>(
-    out: &mut W,
-    n: usize,
-    low: &[u8],
-    high: &[u8],
-    answer: Lines,
-) -> io::Result<()> {
-    text(out, b"nodes ")?;
-    decimal(out, n)?;
-    text(out, b" links ")?;
-    decimal(out, low.len())?;
-    text(out, b"\n")?;
-    print_failure(out, low, high, Failure::Nothing)?;
-    let lines = answer.lines;
-    print_line(out, lines[0])?;
-    print_links(out, low, high, lines)?;
-    text(out, b"walks ")?;
-    decimal(out, answer.walks)?;
-    text(out, b" delivered ")?;
-    decimal(out, answer.delivered)?;
-    text(out, b" dropped ")?;
-    decimal(out, answer.dropped)?;
-    text(out, b"\n")
+fn print_lines<W: Write>(out: &mut W, network: &LentRows<'_>, answer: &Lines) -> io::Result<()> {
+    writeln!(out, "nodes {} links {}", network.nodes, network.low.len())?;
+    print_failure(out, network, Failure::Nothing)?;
+    print_line(out, answer.lines[0])?;
+    print_links(out, network, &answer.lines)?;
+    writeln!(
+        out,
+        "walks {} delivered {} dropped {}",
+        answer.walks, answer.delivered, answer.dropped
+    )
 }
 
-fn print_report<W: Write>(
-    out: &mut W,
-    n: usize,
-    low: &[u8],
-    high: &[u8],
-    weight: &[u32],
-) -> io::Result<()> {
+// All lines over the tables that are built for the network.
+fn lines_of(network: &LentRows<'_>) -> Result<Lines, PlacedRefusal> {
     let mut routing = [0u8; limit::PAIRS];
     let mut forwarding = [0u8; 2 * limit::LINKS * limit::NODES];
     let mut backwarding = [0u8; 2 * limit::LINKS * limit::NODES];
-    tables::build_tables(
-        n,
-        low,
-        high,
-        weight,
-        &mut routing,
-        &mut forwarding,
-        &mut backwarding,
-    );
-    let answer = report::all_lines(n, low, high, weight, &routing, &forwarding, &backwarding);
-    if answer.number != 0 {
-        return print_refusal(out, answer.number, answer.place);
-    }
-    print_lines(out, n, low, high, answer)
+    tables::build_tables(network, &mut routing, &mut forwarding, &mut backwarding)?;
+    let tables = Tables {
+        routing: &routing,
+        forwarding: &forwarding,
+        backwarding: &backwarding,
+    };
+    report::all_lines(network, &tables)
+}
+
+fn report_of(bytes: &[u8]) -> Result<(Network, Lines), PlacedRefusal> {
+    let network = plan::read_plan(bytes)?;
+    let lines = lines_of(&network.lent())?;
+    Ok((network, lines))
 }
 
 fn report_plan<R: Read, W: Write>(input: &mut R, out: &mut W) -> io::Result<()> {
     let mut bytes = [0u8; KEPT];
     let count = read_front(input, &mut bytes)?;
-    let reading = plan::read_plan(front(&bytes, count));
-    if reading.number != 0 {
-        return print_refusal(out, reading.number, reading.place);
+    match report_of(front(&bytes, count)) {
+        Ok((network, lines)) => print_lines(out, &network.lent(), &lines),
+        Err(refused) => {
+            print_refused(out, refused)?;
+            writeln!(out)
+        }
     }
-    let network = reading.network;
-    let links = network.links;
-    let low = network.low;
-    let high = network.high;
-    let weight = network.weight;
-    print_report(
-        out,
-        network.nodes,
-        front(&low, links),
-        front(&high, links),
-        front(&weight, links),
-    )
 }
 
 fn main(rt: HostRuntime) -> io::Result<()> {

@@ -32,7 +32,7 @@ use Rattle.paths.specs.inner.Cost.{no_cost}
 use Rattle.paths.specs.inner.Column.{entry_at, Shows, Shows.none as no_path, BestColumn, OneDestination, Restarted}
 use Rattle.paths.specs.inner.Rounds.{start_column, settled, blanked}
 use Rattle.paths.specs.declared.cost.Cost.{Cost}
-use Rattle.paths.specs.declared.column.Revised.{Revised}
+use Rattle.paths.specs.inner.Rounds.{Revised}
 use Rattle.paths.proofs.CostNumber.{number, entry, Fits, blank, known, blank_sum, fits_here, entry_known, entry_blank}
 use Rattle.paths.proofs.CostNumber.{entry_here, Within, entry_within}
 use Rattle.paths.proofs.ColumnEntry.{shown_known, shown_unknown, shown_best, shown_onward, shown_fits}

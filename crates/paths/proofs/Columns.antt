@@ -12,6 +12,7 @@ use native.Mathlib.Decide.{ℕ_discrete}
 use native.Mathlib.Omega.{arith}
 use lib.ListN.{length, get_or, set, replicate, length-set, length-replicate}
 use lib.Seq.{get_or-set_same, get_or-set_other}
+use Rattle.std.specs.Prelude.{Some, None}
 use Rattle.graph.specs.Network.{Network, link, tail, head}
 use Rattle.net.specs.Limits.{most_nodes}
 use Rattle.net.specs.Choice.{pick}
@@ -21,10 +22,9 @@ use Rattle.net.specs.declared.link_set.LinkSet.{LinkSet}
 use Rattle.net.proofs.LinkSets.{without?, without_none, without_with}
 use Rattle.paths.specs.inner.Cost.{no_cost, here_cost, before, extended}
 use Rattle.paths.specs.inner.Column.{entry_at}
-use Rattle.paths.specs.inner.Rounds.{unrevised, revise, start_column, offer, link_offers, makes_offers, offering_from, offering_links}
+use Rattle.paths.specs.inner.Rounds.{Revised, revised_told, unrevised, revise, start_column, offer, link_offers, makes_offers, offering_from, offering_links}
 use Rattle.paths.specs.inner.Rounds.{turn_of, round_from, round_of, rounds_from, settled, blank_from, blanked}
 use Rattle.paths.specs.declared.cost.Cost.{Cost}
-use Rattle.paths.specs.declared.column.Revised.{Revised}
 use Rattle.paths.proofs.Offers.{Offered}
 
 -- one place replaced
@@ -50,6 +50,15 @@ kept_twice {s} {t} {u} a b = record { long = b.long ∙ a.long; still = still }
   where
     still : u.changed ≡ false → u ≡ s
     still e = let same = b.still e in same ∙ a.still (ap (λ (r : Revised). r.changed) (sym same) ∙ e)
+
+-- what a pass answers that began with this column, by whether it changed a cost
+module _ {column next : List Cost} {changed : Bool} {s : Revised} (kept : Kept (unrevised column) s)
+    (is : s ≡ record { column = next; changed = changed }) where
+  pub told_changed : changed ≡ true → revised_told column (Some next) ≡ s
+  told_changed e = rw (is, e)
+
+  pub told_still : changed ≡ false → revised_told column None ≡ s
+  told_still e = sym (kept.still (ap (λ (r : Revised). r.changed) is ∙ e))
 
 -- one place replaced, or not
 module _ (s : Revised) (i : ℕ) (c : Cost) where

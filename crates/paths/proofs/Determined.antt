@@ -3,6 +3,7 @@
 use Prim.Native.Nat.{ℕ}
 use mathlib.Core.Path.{◌≡◌, sym, ap, ◌∙◌}
 use native.Mathlib.Decide.{ℕ_discrete}
+use Rattle.std.specs.Prelude.{Result, Ok, Err}
 use Rattle.graph.specs.Network.{Network, WellFormed}
 use Rattle.graph.specs.Path.{weight_sum}
 use Rattle.graph.proofs.Agreement.{best_path_one}
@@ -12,8 +13,10 @@ use Rattle.net.specs.Rows.{Rows, network_of}
 use Rattle.net.proofs.Accepted.{check_accepts, well_formed}
 use Rattle.net.proofs.Verdicts.{first_accepted}
 use Rattle.net.proofs.Bytes.{byte_one}
-use Rattle.paths.specs.Best.{best_path_verdict, Measures, of_path, of_none, BestPathAnswer}
-use Rattle.paths.specs.declared.best.BestPath.{BestPath as Answer}
+use Rattle.net.proofs.Told.{number_refuses, refusal_once}
+use Rattle.net.specs.declared.refusal.PlacedRefusal.{PlacedRefusal}
+use Rattle.paths.specs.Best.{Answer, best_path_told, best_path_verdict, Measures, of_path, of_none, BestPathAnswer}
+use Rattle.paths.specs.declared.best.BestPath.{BestPath as Found}
 
 measures_one : (N : Network) → WellFormed N → {s d a b x y : ℕ} → Measures N s d a x → Measures N s d b y → (a ≡ b) × (x ≡ y)
 measures_one N W (of_path t sum set) (of_path u sum₂ set₂) =
@@ -48,3 +51,15 @@ module _ (R : Rows) (s d : ℕ) where
     where
       equal : x.number ≡ y.number → x.place ≡ y.place → x.sum ≡ y.sum → x.links ≡ y.links → x.entry ≡ y.entry → x ≡ y
       equal number place sum links entry = λ t. record { number = number t; place = place t; sum = sum t; links = links t; entry = entry t }
+
+-- and what an answer of the entry tells determines it
+pub best_path_told_once : (x y : Result Found PlacedRefusal) → best_path_told x ≡ best_path_told y → x ≡ y
+best_path_told_once (Ok a) (Ok b) e =
+    ap Ok (λ t. record { sum = (e t).sum; links = (e t).links; entry = (e t).entry })
+best_path_told_once (Ok _) (Err b) e = absurd (number_refuses b.refusal (sym (ap (λ (r : Answer). r.number) e)))
+best_path_told_once (Err a) (Ok _) e = absurd (number_refuses a.refusal (ap (λ (r : Answer). r.number) e))
+best_path_told_once (Err a) (Err b) e = ap Err (refusal_once a b (λ t. record { number = (e t).number; place = (e t).place }))
+
+pub best_path_result_one : (R : Rows) (s d : ℕ) {x y : Result Found PlacedRefusal} → BestPathAnswer R s d (best_path_told x)
+    → BestPathAnswer R s d (best_path_told y) → x ≡ y
+best_path_result_one R s d {x} {y} a b = best_path_told_once x y (best_path_answer_one R s d a b)

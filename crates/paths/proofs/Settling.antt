@@ -40,7 +40,7 @@ use Rattle.paths.specs.inner.Column.{entry_at, Shows, here, found, Shows.none as
 use Rattle.paths.specs.inner.Rounds.{unrevised, offer, link_offers, makes_offers, offering_links, turn_of, round_from, round_of}
 use Rattle.paths.specs.inner.Rounds.{rounds_from, settled}
 use Rattle.paths.specs.declared.cost.Cost.{Cost}
-use Rattle.paths.specs.declared.column.Revised.{Revised}
+use Rattle.paths.specs.inner.Rounds.{Revised}
 use Rattle.paths.proofs.CostNumber.{Limited, number, entry, Fits, blank, known, entry_known, entry_blank}
 use Rattle.paths.proofs.CostNumber.{pair_of_chain, pair_of_nothing}
 use Rattle.paths.proofs.ColumnEntry.{known_true}

@@ -5,7 +5,8 @@ use Prim.Native.Nat.{ℕ, suc, ◌+◌, ◌*◌, ◌-◌, ◌≤◌, ◌<◌}
 use mathlib.Core.Path.{◌≡◌, refl, sym, ap, ◌∙◌}
 use mathlib.Core.Bool.{Bool, true, false, not}
 use mathlib.Core.Logic.{◌≢◌, ◌⊎◌, inl, inr}
-use mathlib.Core.List.{List, []}
+use mathlib.Core.List.{List, [], ◌++◌}
+use Rattle.std.proofs.lemmas.List.{set-append_left}
 use native.Mathlib.Nat.{sub-zero}
 use native.Mathlib.Omega.{arith}
 use lib.ListN.{length, get_or, set, replicate, length-set}
@@ -22,7 +23,7 @@ use Rattle.paths.specs.inner.Square.{column_for}
 use Rattle.paths.specs.inner.Rounds.{Linked, unrevised, revise, offer, link_offers, makes_offers, offering_from, offering_links}
 use Rattle.paths.specs.inner.Rounds.{turn_of, round_from, round_of, rounds_from, settled, blank_from, blanked}
 use Rattle.paths.specs.declared.cost.Cost.{Cost}
-use Rattle.paths.specs.declared.column.Revised.{Revised}
+use Rattle.paths.specs.inner.Rounds.{Revised}
 use Rattle.paths.proofs.Shape.{read_at}
 
 all_done : (m i : ℕ) → m ≤ i → m - i ≡ 0
@@ -90,6 +91,14 @@ pub stored : {test : Bool} {i : ℕ} {c : Cost} {column next : List Cost} {chang
 stored {i = i} {c} {column} (inl (e, column_is, changed_is)) =
     record { is = rw (e, column_is, changed_is); as_long = rw column_is (length-set column i c) }
 stored (inr (e, column_is, changed_is)) = record { is = rw (e, column_is, changed_is); as_long = ap length column_is }
+
+-- the same where the code goes over the first places alone, with the rest of the column behind them
+pub stored_front : {test : Bool} {i : ℕ} {c : Cost} {items next : List Cost} {changed changed₂ : Bool} (rest : List Cost) → i < length items
+    → ((test ≡ true) × (next ≡ set items i c) × (changed₂ ≡ true)) ⊎ ((test ≡ false) × (next ≡ items) × (changed₂ ≡ changed))
+    → Stored test i c (record { column = items ++ rest; changed = changed }) (record { column = next ++ rest; changed = changed₂ })
+stored_front {i = i} {c} {items} rest place (inl (e, is, changed_is)) =
+    stored (inl (e, ap (λ (l : List Cost). l ++ rest) is ∙ sym (set-append_left items rest i c place), changed_is))
+stored_front rest place (inr (e, is, changed_is)) = stored (inr (e, ap (λ (l : List Cost). l ++ rest) is, changed_is))
 
 -- one offer, as the code makes it
 offered : (f k x y weight : ℕ) (s : Revised) → x < length s.column → y < length s.column → (past : Cost)

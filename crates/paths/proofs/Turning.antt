@@ -9,6 +9,10 @@ use borrow.Author.Count.{below_more}
 use lib.ListN.{length, get_or, set, length-set}
 use lib.Seq.{get_or-set_same, get_or-set_other}
 use Rattle.net.specs.Limits.{most_nodes}
+use Rattle.paths.specs.inner.Cost.{no_cost}
+use Rattle.paths.specs.inner.Column.{entry_at}
+use Rattle.paths.specs.inner.Square.{column_for, cell, IsTurned}
+use Rattle.paths.specs.declared.cost.Cost.{Cost}
 use Rattle.paths.proofs.Shape.{Shaped}
 
 -- one entry stored, within the shape
@@ -70,3 +74,9 @@ module _ {A : Type 0} (past : A) where
             ];
             row = λ b h. absurd (omega arith);
           }
+
+-- a square of costs turned: the row of a node has its costs
+pub turned_costs : (square turned : List (List Cost)) (n : ℕ) → IsTurned square n turned
+    → (i d : ℕ) → i < n → d < n → entry_at (column_for turned i) d ≡ cell square i d
+unfolding column_for entry_at
+turned_costs square turned n whole = whole no_cost

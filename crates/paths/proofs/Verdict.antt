@@ -1,20 +1,23 @@
 -- The refusals of `best_path`, in order: the network's, then the source, then the destination.
 use Prim.Native.Nat.{ℕ, ◌≤◌, ◌<◌}
 use mathlib.Core.Path.{◌≡◌, refl, sym, ap, ◌∙◌}
-use mathlib.Core.Logic.{◌≢◌}
 use native.Mathlib.Decide.{dec_lt}
 use native.Mathlib.Omega.{arith}
 use borrow.Author.Tests.{le-leb, lt-leb}
 use lib.Dec.{leb}
 use Rattle.net.specs.Refusals.{accepted, node_number}
 use Rattle.net.specs.Check.{Accepted, check_network, verdict, or_else, refused_if}
-use Rattle.net.specs.declared.check.Verdict.{Verdict}
-use Rattle.net.proofs.Verdicts.{or_else_first, or_else_second, first_accepted}
+use Rattle.std.specs.Prelude.{Err}
+use Rattle.net.specs.Told.{verdict_of}
+use Rattle.net.specs.declared.refusal.PlacedRefusal.{PlacedRefusal}
+use Rattle.net.proofs.Told.{number_refuses}
+use Rattle.net.specs.Verdict.{Verdict}
+use Rattle.net.proofs.Verdicts.{or_else_second, first_accepted}
 use Rattle.net.proofs.Accepted.{check_accepts, accepts_check}
 use Rattle.graph.specs.Path.{All}
 use Rattle.net.specs.Entry.{EntryByte}
 use Rattle.net.specs.Rows.{Rows, network_of}
-use Rattle.paths.specs.Best.{best_path_verdict, Measures, BestPathAnswer}
+use Rattle.paths.specs.Best.{best_path_verdict, best_path_told, Measures, BestPathAnswer}
 
 abbrev pub number : Verdict → ℕ
 number v = v.number
@@ -24,10 +27,6 @@ place v = v.place
 
 module _ (R : Rows) (s d : ℕ) where
   open R use {nodes as n}
-
-  pub network_refused : (check_network R).number ≢ accepted → best_path_verdict R s d ≡ check_network R
-  unfolding best_path_verdict
-  network_refused refused = or_else_first _ _ refused
 
   module _ (passed : (check_network R).number ≡ accepted) where
     own : best_path_verdict R s d ≡ or_else (refused_if (leb n s) node_number) (refused_if (leb n d) node_number)
@@ -77,4 +76,16 @@ module _ (R : Rows) (s d : ℕ) where
         refused = λ n. absurd (n refl);
         measures = λ q. measures;
         routing = λ q. routing;
+      }
+
+  -- an answer that tells the refusal
+  pub answered_refused : (refused : PlacedRefusal) → verdict_of refused ≡ best_path_verdict R s d
+      → BestPathAnswer R s d (best_path_told (Err refused))
+  answered_refused refused e =
+      record {
+        number = ap number e;
+        place = ap place e;
+        refused = λ n. (refl, refl, refl);
+        measures = λ q. absurd (number_refuses refused.refusal q);
+        routing = λ q. absurd (number_refuses refused.refusal q);
       }

@@ -4,207 +4,159 @@ ghost use Rattle.std.specs.Prelude.{◌≡◌, ◌≤◌, ◌<◌};
 ghost use Rattle.graph.specs.Path.{All};
 ghost use Rattle.net.specs.Limits.{most_nodes};
 ghost use Rattle.net.specs.Check.{Accepted};
+ghost use Rattle.net.specs.Lent.{rows_lent};
 ghost use Rattle.net.specs.Rows.{network_of};
 ghost use Rattle.paths.specs.inner.Column.{BestColumn, OneDestination, Restarted};
 ghost use Rattle.paths.specs.inner.Rounds.{Placed, Linked, start_column, makes_offers, offering_links};
-ghost use Rattle.paths.specs.inner.Rounds.{turn_of, round_of, settled, blanked};
+ghost use Rattle.paths.specs.inner.Rounds.{turn_of, round_of, settled, blanked, revised_told};
 
-use crate::cost::{Cost, comes_before, extend, here_cost, known, no_cost};
-use net::{Link, LinkSet, Node, limit, link_set};
-
-// What one pass over a column leaves, and whether it changed a cost.
-#[derive(Clone, Copy)]
-pub struct Revised {
-    pub column: [Cost; limit::NODES],
-    pub changed: bool,
-}
+use crate::cost::Cost;
+use net::{LentRows, Link, LinkSet, Node, limit};
 
 // At the start only the destination's own cost is known.
-fn start(d: usize) -> [Cost; limit::NODES]
-    requires { d < most_nodes }
-    ensures { result ≡ start_column d }
+fn start(destination: Node) -> [Cost; limit::NODES]
+    requires { destination.0 < most_nodes }
+    ensures { result ≡ start_column destination.0 }
 {
-    let unknown = no_cost();
+    let unknown = Cost::none();
     let mut column = [unknown; limit::NODES];
-    column[d] = here_cost();
+    column[destination.0] = Cost::here();
     column
 }
 
-// Whether link k makes offers: it is left in, and not both of its ends were known when the rounds began. What was known then is final.
-fn makes_offers(out: LinkSet, k: usize, one: Cost, other: Cost) -> bool
-    ensures { result ≡ makes_offers out k one other }
+// Whether a link makes offers: it is left in, and not both of its ends were known when the rounds began. What was known then is final.
+#[tactic(auto, unfolding(crate::specs::inner::Rounds::makes_offers))]
+fn makes_offers(out: LinkSet, link: Link, one: Cost, other: Cost) -> bool
+    ensures { result ≡ makes_offers out link.0 one other }
 {
-    if link_set::has_link(out, Link(k)) {
+    if out.has_link(link) {
         return false;
     }
-    if !known(one) {
-        return true;
-    }
-    !known(other)
+    !(one.known() && other.known())
 }
 
 // The links that make offers in rounds that begin with the column `given`.
-fn offering_links(given: [Cost; limit::NODES], low: &[u8], high: &[u8], out: LinkSet) -> LinkSet
-    requires { Placed low.now high.now }
-    ensures { result ≡ offering_links low.now high.now out given }
+fn offering_links(given: [Cost; limit::NODES], network: &LentRows<'_>, out: LinkSet) -> LinkSet
+    requires { let R = rows_lent network.now in Placed R.low R.high }
+    ensures { let R = rows_lent network.now in result ≡ offering_links R.low R.high out given }
 {
-    let mut offering = link_set::empty();
-    let links = low.len();
-    let mut k: usize = 0;
-    while k < links {
-        let x = low[k] as usize;
-        let y = high[k] as usize;
-        if makes_offers(out, k, given[x], given[y]) {
-            let more = link_set::with_link(offering, Link(k));
-            offering = more;
+    let mut offering = LinkSet::empty();
+    for k in 0..network.low.len() {
+        let x = network.low[k] as usize;
+        let y = network.high[k] as usize;
+        if makes_offers(out, Link(k), given[x], given[y]) {
+            offering = offering.with_link(Link(k));
         }
-        k += 1;
     }
     offering
 }
 
-// The link whose turn comes after j others. Rounds go up the links and down again, in turn: along a row of nodes in the order of their
+// The link whose turn comes after j others; `upward` is a bool, as what alternates is negated. Rounds go up the links and down again, in turn: along a row of nodes in the order of their
 // numbers a round carries a cost to the end in one of the two directions, and one node further in the other.
+#[tactic(auto, unfolding(crate::specs::inner::Rounds::turn_of))]
 fn turn_of(links: usize, upward: bool, j: usize) -> usize
     requires { j < links }
     ensures { result ≡ turn_of links upward j }
 {
-    if upward {
-        return j;
-    }
-    links - 1 - j
+    if upward { j } else { links - 1 - j }
 }
 
-// One round: each link of the set offers its two ends their ways over it.
+// One round: each link of the set offers its two ends their ways over it. No answer where none of them stores one.
+#[tactic(auto, using(crate::proofs::Columns::turn_below))]
 fn round(
     column: [Cost; limit::NODES],
-    low: &[u8],
-    high: &[u8],
-    weight: &[u32],
+    network: &LentRows<'_>,
     offering: LinkSet,
     upward: bool,
-) -> Revised
-    requires { Linked low.now high.now weight.now }
-    ensures { result ≡ round_of low.now high.now weight.now offering upward column }
+) -> Option<[Cost; limit::NODES]>
+    requires { let R = rows_lent network.now in Linked R.low R.high R.weight }
+    ensures { let R = rows_lent network.now in
+        revised_told column result ≡ round_of R.low R.high R.weight offering upward column }
 {
     let mut next = column;
     let mut changed = false;
-    let links = low.len();
-    let mut j: usize = 0;
-    while j < links {
+    let links = network.low.len();
+    for j in 0..links {
         let k = turn_of(links, upward, j);
-        if link_set::has_link(offering, Link(k)) {
-            let x = low[k] as usize;
-            let y = high[k] as usize;
-            let w = weight[k];
-            let to_low = extend(next[y], w, k, (2 * k) as u8);
-            if comes_before(to_low, next[x]) {
+        if offering.has_link(Link(k)) {
+            let x = network.low[k] as usize;
+            let y = network.high[k] as usize;
+            let w = network.weight[k];
+            let to_low = next[y].extend(w, Link(k), (2 * k) as u8);
+            if to_low.comes_before(next[x]) {
                 next[x] = to_low;
                 changed = true;
             }
-            let to_high = extend(next[x], w, k, (2 * k + 1) as u8);
-            if comes_before(to_high, next[y]) {
+            let to_high = next[x].extend(w, Link(k), (2 * k + 1) as u8);
+            if to_high.comes_before(next[y]) {
                 next[y] = to_high;
                 changed = true;
             }
         }
-        j += 1;
     }
-    Revised {
-        column: next,
-        changed: changed,
+    if !changed {
+        return None;
     }
+    Some(next)
 }
 
 // Rounds until one changes nothing; of n nodes, n - 1 are enough.
-fn settle(
-    given: [Cost; limit::NODES],
-    n: usize,
-    low: &[u8],
-    high: &[u8],
-    weight: &[u32],
-    out: LinkSet,
-) -> [Cost; limit::NODES]
-    requires { Linked low.now high.now weight.now }
-    ensures { result ≡ settled
-        (record { nodes = n; low = low.now; high = high.now; weight = weight.now }) out given }
+fn settle(given: [Cost; limit::NODES], network: &LentRows<'_>, out: LinkSet) -> [Cost; limit::NODES]
+    requires { let R = rows_lent network.now in Linked R.low R.high R.weight }
+    ensures { result ≡ settled (rows_lent network.now) out given }
 {
-    let offering = offering_links(given, low, high, out);
+    let offering = offering_links(given, network, out);
     let mut column = given;
     let mut upward = true;
-    let mut r: usize = 1;
-    while r < n {
-        let one = round(column, low, high, weight, offering, upward);
-        let after = one.column;
-        column = after;
-        if !one.changed {
+    for _ in 1..network.nodes {
+        let Some(next) = round(column, network, offering, upward) else {
             return column;
-        }
+        };
+        column = next;
         upward = !upward;
-        r += 1;
     }
     column
 }
 
-// The column without the costs of n nodes that use a link of the set.
-fn blank(column: [Cost; limit::NODES], n: usize, out: LinkSet) -> Revised
+// The column without the costs of n nodes that use a link of the set. No answer where none of them does.
+fn blank(column: [Cost; limit::NODES], n: usize, out: LinkSet) -> Option<[Cost; limit::NODES]>
     requires { n ≤ most_nodes }
-    ensures { result ≡ blanked n out column }
+    ensures { revised_told column result ≡ blanked n out column }
 {
     let mut next = column;
     let mut changed = false;
-    let mut i: usize = 0;
-    while i < n {
-        let c = next[i];
-        let links = c.links;
-        if link_set::meets(links, out) {
-            next[i] = no_cost();
+    for cost in &mut next[..n] {
+        if cost.links.meets(out) {
+            *cost = Cost::none();
             changed = true;
         }
-        i += 1;
     }
-    Revised {
-        column: next,
-        changed: changed,
+    if !changed {
+        return None;
     }
+    Some(next)
 }
 
 // The best paths to one destination over all links.
-pub fn column_of(
-    n: usize,
-    low: &[u8],
-    high: &[u8],
-    weight: &[u32],
-    destination: Node,
-) -> [Cost; limit::NODES]
-    requires { OneDestination (record { nodes = n; low = low.now; high = high.now; weight = weight.now }) destination.0 }
-    ensures { BestColumn
-        (network_of (record { nodes = n; low = low.now; high = high.now; weight = weight.now }))
-        All destination.0 result }
+pub fn column_of(network: &LentRows<'_>, destination: Node) -> [Cost; limit::NODES]
+    requires { OneDestination (rows_lent network.now) destination.0 }
+    ensures { BestColumn (network_of (rows_lent network.now)) All destination.0 result }
 {
-    let given = start(destination.0);
-    settle(given, n, low, high, weight, link_set::empty())
+    settle(start(destination), network, LinkSet::empty())
 }
 
 // The best paths without the links of the set, from those without fewer links or none. A column that none of them touches is final as
 // it is.
 pub fn column_without(
     column: [Cost; limit::NODES],
-    n: usize,
-    low: &[u8],
-    high: &[u8],
-    weight: &[u32],
+    network: &LentRows<'_>,
     out: LinkSet,
 ) -> [Cost; limit::NODES]
-    requires { Accepted (record { nodes = n; low = low.now; high = high.now; weight = weight.now }) }
-    ensures { Restarted
-        (network_of (record { nodes = n; low = low.now; high = high.now; weight = weight.now }))
-        out column result }
+    requires { Accepted (rows_lent network.now) }
+    ensures { Restarted (network_of (rows_lent network.now)) out column result }
 {
-    let given = blank(column, n, out);
-    if !given.changed {
-        return column;
+    match blank(column, network.nodes, out) {
+        Some(given) => settle(given, network, out),
+        None => column,
     }
-    let begun = given.column;
-    settle(begun, n, low, high, weight, out)
 }

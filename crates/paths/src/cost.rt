@@ -4,7 +4,7 @@ ghost use Rattle.std.specs.Prelude.{◌≡◌, ◌<◌};
 ghost use Rattle.net.specs.Limits.{most_links};
 ghost use Rattle.paths.specs.inner.Cost.{no_cost, here_cost, is_known, before, extended};
 
-use net::{Link, LinkSet, link_set};
+use net::{Link, LinkSet};
 
 #[derive(Clone, Copy)]
 pub struct Cost {
@@ -13,64 +13,66 @@ pub struct Cost {
     pub first: u8,
 }
 
-// No path has this weight sum: it says that none is known.
+// No path has this weight sum: it says that none is known. An `Option<Cost>` has a tag of its own, 24 bytes in place of 16, and squares of
+// costs are copied (docs/DECISIONS.md, "Speed").
 pub const UNKNOWN: u32 = 4294967295;
 
-pub fn no_cost() -> Cost
-    ensures { result ≡ no_cost }
-{
-    Cost {
-        sum: UNKNOWN,
-        links: link_set::empty(),
-        first: 0,
+impl Cost {
+    // No path is known.
+    #[tactic(auto, unfolding(crate::specs::inner::Cost::no_cost))]
+    pub fn none() -> Cost
+        ensures { result ≡ no_cost }
+    {
+        Cost {
+            sum: UNKNOWN,
+            links: LinkSet::empty(),
+            first: 0,
+        }
     }
-}
 
-// The cost of the destination itself.
-pub fn here_cost() -> Cost
-    ensures { result ≡ here_cost }
-{
-    Cost {
-        sum: 0,
-        links: link_set::empty(),
-        first: 0,
+    // The cost of the destination itself.
+    #[tactic(auto, unfolding(crate::specs::inner::Cost::here_cost))]
+    pub fn here() -> Cost
+        ensures { result ≡ here_cost }
+    {
+        Cost {
+            sum: 0,
+            links: LinkSet::empty(),
+            first: 0,
+        }
     }
-}
 
-pub fn known(c: Cost) -> bool
-    ensures { result ≡ is_known c }
-{
-    c.sum < UNKNOWN
-}
+    #[tactic(auto, unfolding(crate::specs::inner::Cost::is_known))]
+    pub fn known(self) -> bool
+        ensures { result ≡ is_known self }
+    {
+        self.sum < UNKNOWN
+    }
 
-// Whether a comes before b: weight sum first, then the set of links.
-#[tactic(auto, unfolding(crate::specs::inner::Cost::before))]
-pub fn comes_before(a: Cost, b: Cost) -> bool
-    ensures { result ≡ before a b }
-{
-    if a.sum < b.sum {
-        return true;
+    // Weight sum first, then the set of links.
+    #[tactic(auto, unfolding(crate::specs::inner::Cost::before))]
+    pub fn comes_before(self, other: Cost) -> bool
+        ensures { result ≡ before self other }
+    {
+        if self.sum == other.sum {
+            return self.links.comes_before(other.links);
+        }
+        self.sum < other.sum
     }
-    if a.sum == b.sum {
-        let one = a.links;
-        let other = b.links;
-        return link_set::comes_before(one, other);
-    }
-    false
-}
 
-// The cost of a path with one link more in front: link k of that weight, entered by interface f.
-pub fn extend(c: Cost, weight: u32, k: usize, f: u8) -> Cost
-    requires { k < most_links }
-    ensures { result ≡ extended c weight k f }
-{
-    if c.sum < UNKNOWN - weight {
-        let links = c.links;
-        return Cost {
-            sum: c.sum + weight,
-            links: link_set::with_link(links, Link(k)),
-            first: f,
-        };
+    // The cost of a path with one link more in front, of that weight and entered by interface `first`.
+    #[tactic(auto, unfolding(crate::specs::inner::Cost::extended))]
+    pub fn extend(self, weight: u32, link: Link, first: u8) -> Cost
+        requires { link.0 < most_links }
+        ensures { result ≡ extended self weight link.0 first }
+    {
+        if self.sum < UNKNOWN - weight {
+            return Cost {
+                sum: self.sum + weight,
+                links: self.links.with_link(link),
+                first,
+            };
+        }
+        Cost::none()
     }
-    no_cost()
 }

@@ -11,13 +11,12 @@ use Rattle.net.specs.Refusals.{accepted, room}
 use Rattle.net.specs.Rows.{Rows}
 use Rattle.net.specs.Check.{check_network, verdict, Accepted}
 use Rattle.net.specs.inner.Overwritten.{overwritten}
-use Rattle.net.specs.declared.check.Verdict.{Verdict}
+use Rattle.net.specs.Verdict.{Verdict}
 use Rattle.net.proofs.Accepted.{accepts_check}
 use Rattle.net.proofs.Overwrite.{over_start}
 use Rattle.net.proofs.Verdicts.{or_else_first, or_else_second, is_refused, not_refused}
 use Rattle.plan.specs.Plan.{plan_of}
-use Rattle.plan.specs.Writer.{write_verdict, unwritten, written, write_plan, room_after}
-use Rattle.plan.specs.declared.writer.Written.{Written}
+use Rattle.plan.specs.Writer.{Written, write_verdict, unwritten, written, write_plan, room_after}
 
 module _ (R : Rows) (space : List ℕ) where
   -- an answer, and the room at exit, as the contract says them

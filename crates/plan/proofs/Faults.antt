@@ -14,11 +14,9 @@ use Rattle.net.specs.Refusals.{accepted, link_ends, link_order, link_weight, byt
 use Rattle.net.specs.Rows.{Rows}
 use Rattle.net.specs.Check.{Joins, Accepted}
 use Rattle.net.proofs.Tests.{holds, fails, count_tells, weight_tells, order_tells, twin_order_tells}
-use Rattle.plan.specs.declared.number.Number.TheVariants.{Refused as NoNumber}
-use Rattle.plan.specs.declared.reader.Reading.{Reading}
-use Rattle.plan.specs.Number.{most_stored, stored, number_at}
+use Rattle.plan.specs.Number.{Refused as NoNumber, most_stored, stored, number_at}
 use Rattle.plan.specs.Plan.{link_bytes, links_bytes, plan_start, plan_of}
-use Rattle.plan.specs.Reader.{refusal, read_plan}
+use Rattle.plan.specs.Reader.{Reading, refusal, read_plan}
 use Rattle.plan.specs.Fault.{Bytes, Passed, LinkDue, Follows, TwinFollows, EndsPass, Due, Fault, acceptance, IsPlan}
 use Rattle.plan.proofs.Stored.{Begins, begins, short_refuses, malformed_refuses, bytes_after, some_length, some_group}
 use Rattle.plan.proofs.LinkPasses.{passes_more, bytes_more}

@@ -12,7 +12,7 @@ use lib.ListN.{length, get_or}
 use Rattle.net.specs.Choice.{both}
 use Rattle.net.specs.Refusals.{bytes_end, number_form}
 use Rattle.plan.specs.Number.{base, most_stored, groups_from}
-use Rattle.plan.specs.declared.number.Number.TheVariants.{Value, Refused}
+use Rattle.plan.specs.Number.{Value, Refused}
 
 both_false : (b : Bool) → both b false ≡ false
 both_false true = refl

@@ -10,4 +10,5 @@ pub mod Enough
 pub mod Storing
 pub mod Putting
 pub mod Answers
+pub mod Told
 pub mod Determined

@@ -15,10 +15,8 @@ use Rattle.net.specs.Rows.{Rows}
 use Rattle.net.specs.Check.{Joins, descends, lighter_twin, span_before}
 use Rattle.net.specs.declared.check.Span.{Span}
 use Rattle.net.proofs.Tests.{fails, count_tells, weight_tells, order_tells, twin_order_tells}
-use Rattle.plan.specs.declared.number.Number.TheVariants.{Value}
-use Rattle.plan.specs.declared.reader.Reading.{Reading}
-use Rattle.plan.specs.declared.reader.LinkRead.{LinkRead}
-use Rattle.plan.specs.declared.reader.LinkRead.TheVariants.{Got, Refused}
+use Rattle.plan.specs.Number.{Value}
+use Rattle.plan.specs.Reader.{Reading, LinkAt, Got, Refused}
 use Rattle.plan.specs.Number.{most_stored, stored, number_at}
 use Rattle.plan.specs.Plan.{link_bytes, link_bytes_at, links_bytes, plan_start}
 use Rattle.plan.specs.Reader.{refusal, weight_at, difference_at, link_at, links_read, link_count_at, read_plan}
@@ -156,7 +154,7 @@ module _ {m : ℕ} {R : Rows} (due : LinkDue m R) (s : List ℕ) where
   open R use {nodes as n, low}
 
   -- the link that is due, stored after those that have passed
-  abbrev pub link_due : LinkRead
+  abbrev pub link_due : LinkAt
   link_due = link_at s n (length (plan_start m R)) (last_link R)
 
   pub link_refused : (rest : List ℕ) (number place : ℕ) → s ≡ plan_start m R ++ rest → link_due ≡ Refused number place

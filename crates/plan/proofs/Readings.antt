@@ -15,16 +15,13 @@ use Rattle.net.specs.Refusals.{node_count, link_count, link_ends, link_order, li
 use Rattle.net.specs.Rows.{Rows}
 use Rattle.net.specs.Check.{descends, bad_weight, lighter_twin, bad_node_count, origin}
 use Rattle.net.specs.declared.check.Span.{Span}
-use Rattle.plan.specs.Number.{number_at}
+use Rattle.plan.specs.Number.{NumberAt, Value, Refused as NoNumber, number_at}
+use Rattle.plan.specs.Reader.{LinkAt, Got, Refused}
 use Rattle.plan.specs.Reader.{refusal, success, no_links, with_link, take_weight, weight_at, take_difference, difference_at}
 use Rattle.plan.specs.Reader.{take_low, link_at, take_link, links_read, take_link_count, link_count_at, take_node_count, read_plan}
-use Rattle.plan.specs.declared.number.Number.{Number}
-use Rattle.plan.specs.declared.number.Number.TheVariants.{Value, Refused as NoNumber}
-use Rattle.plan.specs.declared.reader.LinkRead.{LinkRead}
-use Rattle.plan.specs.declared.reader.LinkRead.TheVariants.{Got, Refused}
 
 -- a link's weight, and its order against a parallel link before
-module _ (s : List ℕ) (first third low high : ℕ) (before : Span) {answer : Number} (asked : answer ≡ number_at s third) where
+module _ (s : List ℕ) (first third low high : ℕ) (before : Span) {answer : NumberAt} (asked : answer ≡ number_at s third) where
   pub weight_unread : (number place : ℕ) → answer ≡ NoNumber number place → weight_at s first third low high before ≡ Refused number place
   unfolding weight_at take_weight
   weight_unread number place e = rw (← asked, e)
@@ -44,7 +41,7 @@ module _ (s : List ℕ) (first third low high : ℕ) (before : Span) {answer : N
       weight_read heavy_enough = rw (← asked, number_read, good, heavy_enough)
 
 -- the difference of a link's ends, and the link's order
-module _ (s : List ℕ) (n first second low : ℕ) (before : Span) {answer : Number} (asked : answer ≡ number_at s second) where
+module _ (s : List ℕ) (n first second low : ℕ) (before : Span) {answer : NumberAt} (asked : answer ≡ number_at s second) where
   pub difference_unread : (number place : ℕ) → answer ≡ NoNumber number place
       → difference_at s n first second low before ≡ Refused number place
   unfolding difference_at take_difference
@@ -73,7 +70,7 @@ module _ (s : List ℕ) (n first second low : ℕ) (before : Span) {answer : Num
       difference_read in_order = simp (← asked, number_read, ne_eqb difference 0 some, lt-leb _ _ node, in_order)
 
 -- a link's low end
-module _ (s : List ℕ) (n first : ℕ) (before : Span) {answer : Number} (asked : answer ≡ number_at s first) where
+module _ (s : List ℕ) (n first : ℕ) (before : Span) {answer : NumberAt} (asked : answer ≡ number_at s first) where
   pub low_unread : (number place : ℕ) → answer ≡ NoNumber number place
       → link_at s n first before ≡ Refused number place
   unfolding link_at take_low
@@ -102,7 +99,7 @@ module _ (s : List ℕ) (m at : ℕ) (before : Span) (k : ℕ) (R : Rows) where
     unfolding links_read
     all_read h = simp (nothing_left, le-ltb _ _ h)
 
-  module _ (some_left : k < m) {answer : LinkRead} (asked : answer ≡ link_at s R.nodes at before) where
+  module _ (some_left : k < m) {answer : LinkAt} (asked : answer ≡ link_at s R.nodes at before) where
     one_and_more : m - k ≡ suc (m - (k + 1))
     one_and_more = omega arith
 
@@ -118,7 +115,7 @@ module _ (s : List ℕ) (m at : ℕ) (before : Span) (k : ℕ) (R : Rows) where
     link_read low high weight next e = simp (one_and_more, ← asked, e)
 
 -- the link count
-module _ (s : List ℕ) (n second : ℕ) {answer : Number} (asked : answer ≡ number_at s second) where
+module _ (s : List ℕ) (n second : ℕ) {answer : NumberAt} (asked : answer ≡ number_at s second) where
   pub link_count_unread : (number place : ℕ) → answer ≡ NoNumber number place → link_count_at s n second ≡ refusal number place
   unfolding link_count_at take_link_count
   link_count_unread number place e = rw (← asked, e)
@@ -133,7 +130,7 @@ module _ (s : List ℕ) (n second : ℕ) {answer : Number} (asked : answer ≡ n
     link_count_read few = simp (← asked, number_read, le-ltb _ _ few)
 
 -- the node count
-module _ (s : List ℕ) {answer : Number} (asked : answer ≡ number_at s 0) where
+module _ (s : List ℕ) {answer : NumberAt} (asked : answer ≡ number_at s 0) where
   pub node_count_unread : (number place : ℕ) → answer ≡ NoNumber number place → read_plan s ≡ refusal number place
   unfolding read_plan take_node_count
   node_count_unread number place e = rw (← asked, e)

@@ -11,9 +11,8 @@ use Rattle.net.specs.Refusals.{accepted}
 use Rattle.net.specs.Rows.{Rows}
 use Rattle.net.specs.Check.{Accepted}
 use Rattle.net.proofs.Overwrite.{over_start}
-use Rattle.plan.specs.declared.reader.Reading.{Reading}
 use Rattle.plan.specs.Plan.{plan_of}
-use Rattle.plan.specs.Reader.{rows_read, read_plan}
+use Rattle.plan.specs.Reader.{Reading, rows_read, read_plan}
 use Rattle.plan.specs.Writer.{written, write_plan, room_after}
 use Rattle.plan.specs.Fault.{Bytes, padded, acceptance}
 use Rattle.plan.proofs.Faults.{plan_reads, plan_read, accepted_exactly}

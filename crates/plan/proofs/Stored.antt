@@ -12,8 +12,7 @@ use native.Mathlib.Omega.{arith}
 use lib.ListN.{length, get_or, take, drop, length-append, take-append-drop, drop_of_length-le}
 use lib.Seq.{get_or-append_seam, append_snoc, drop-append_seam, length-take-le}
 use Rattle.net.specs.Refusals.{bytes_end, number_form}
-use Rattle.plan.specs.declared.number.Number.{Number}
-use Rattle.plan.specs.declared.number.Number.TheVariants.{Value, Refused}
+use Rattle.plan.specs.Number.{NumberAt, Value, Refused}
 use Rattle.plan.specs.Number.{base, groups, most_stored, groups_of, stored, groups_from, number_at}
 use Rattle.plan.specs.Fault.{Bytes, Unended, Malformed}
 use Rattle.plan.proofs.Groups.{no_groups_left, bytes_end_there, zero_group_last, last_group, group_before_more}
@@ -79,7 +78,7 @@ reads_groups (suc more) v before rest first value scale fits alone =
     ]
 
 -- whatever comes after groups with their top bit set comes of them
-passes_unended : {front : List ℕ} (left : ℕ) (before rest : List ℕ) (first : ℕ) (answer : Number) → Unended front
+passes_unended : {front : List ℕ} (left : ℕ) (before rest : List ℕ) (first : ℕ) (answer : NumberAt) → Unended front
     → ((value scale : ℕ) → groups_from left ((before ++ front) ++ rest) first (length (before ++ front)) value scale ≡ answer)
     → (value scale : ℕ) → groups_from (length front + left) (before ++ (front ++ rest)) first (length before) value scale ≡ answer
 passes_unended left before rest first answer Unended.none after value scale =

@@ -8,8 +8,7 @@ use Rattle.net.specs.Check.{Accepted}
 use Rattle.net.specs.Refused.{BadNodeCount, BadWeight, InOrder, TwinsInOrder}
 use Rattle.plan.specs.Number.{base, groups, most_stored, stored}
 use Rattle.plan.specs.Plan.{plan_start, plan_of}
-use Rattle.plan.specs.Reader.{success}
-use Rattle.plan.specs.declared.reader.Reading.{Reading}
+use Rattle.plan.specs.Reader.{Reading, success}
 
 -- the elements of a list of bytes
 pub data Bytes : List ℕ → Type 0 where

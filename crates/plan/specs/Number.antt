@@ -3,8 +3,6 @@
 use Rattle.std.specs.Prelude.{ℕ, zero, suc, ◌+◌, ◌*◌, ◌-◌, ◌/◌, ◌%◌, ◌^◌, List, [], ◌∷◌, length, get_or, ltb, leb, eqb}
 use Rattle.net.specs.Choice.{pick, both}
 use Rattle.net.specs.Refusals.{bytes_end, number_form}
-use Rattle.plan.specs.declared.number.Number.{Number}
-use Rattle.plan.specs.declared.number.Number.TheVariants.{Value, Refused}
 
 -- values of a group, and the groups of a number
 abbrev pub base : ℕ
@@ -26,9 +24,14 @@ groups_of (suc more) v = pick (ltb v base) (v ∷ []) ((v % base + base) ∷ gro
 unfoldable pub stored : ℕ → List ℕ
 stored v = groups_of (groups - 1) v
 
+-- what stands where a number is due: its value and the place after it, or a refusal number and its place
+pub data NumberAt : Type 0 where
+  Value : ℕ → ℕ → NumberAt
+  Refused : ℕ → ℕ → NumberAt
+
 -- Reading a number that starts at `first`: what is known after some groups is their value, the worth of the next group and the
 -- place where it stands; `left` groups may still follow.
-unfoldable pub groups_from : ℕ → List ℕ → ℕ → ℕ → ℕ → ℕ → Number
+unfoldable pub groups_from : ℕ → List ℕ → ℕ → ℕ → ℕ → ℕ → NumberAt
 groups_from zero s first at value scale = Refused number_form first
 groups_from (suc left) s first at value scale =
     let group = get_or s at 0 in
@@ -39,5 +42,5 @@ groups_from (suc left) s first at value scale =
     more)
 
 -- the number that is stored at a place, with the place after it, or its fault
-unfoldable pub number_at : List ℕ → ℕ → Number
+unfoldable pub number_at : List ℕ → ℕ → NumberAt
 number_at s first = groups_from groups s first first 0 1

@@ -6,9 +6,14 @@ use Rattle.net.specs.Refusals.{accepted, room}
 use Rattle.net.specs.Choice.{pick}
 use Rattle.net.specs.Rows.{Rows}
 use Rattle.net.specs.Check.{check_network, or_else, refused_if}
-use Rattle.net.specs.declared.check.Verdict.{Verdict}
+use Rattle.net.specs.Verdict.{Verdict}
 use Rattle.plan.specs.Plan.{plan_of}
-use Rattle.plan.specs.declared.writer.Written.{Written}
+
+-- "The plan writer answers with their count", and as every entry with a number and a place.
+pub record Written : Type 0 where
+  pub number : ℕ
+  pub place : ℕ
+  pub count : ℕ
 
 -- the first refusal, given the room as it was
 unfoldable pub write_verdict : Rows → List ℕ → Verdict

@@ -2,8 +2,10 @@
 // calls over the struct are thin; the work is `read_number`'s.
 ghost use Rattle.std.specs.Prelude.{◌≡◌};
 ghost use Rattle.plan.specs.Number.{number_at};
+ghost use Rattle.plan.specs.Told.{number_at_told};
 
 use crate::number::{Number, read_number};
+use net::PlacedRefusal;
 
 #[derive(Clone, Copy)]
 pub struct Reader<'a> {
@@ -11,23 +13,25 @@ pub struct Reader<'a> {
     pub at: usize,
 }
 
-// A reader that has come to a place.
-pub fn reader_at<'a>(bytes: &'a [u8], at: usize) -> Reader<'a>
-    ensures { (result.bytes ≡ bytes.entry) × (result.at ≡ at) }
-{
-    Reader { bytes, at }
-}
+impl<'a> Reader<'a> {
+    // A reader that has come to a place.
+    pub fn reader_at(bytes: &'a [u8], at: usize) -> Reader<'a>
+        ensures { (result.bytes ≡ bytes.entry) × (result.at ≡ at) }
+    {
+        Reader { bytes, at }
+    }
 
-// The number at the reader's place.
-pub fn next_number<'a>(reader: Reader<'a>) -> Number
-    ensures { result ≡ number_at reader.entry.bytes.now reader.entry.at }
-{
-    read_number(reader.bytes, reader.at)
+    // The number at the reader's place.
+    pub fn next_number(self) -> Result<Number, PlacedRefusal>
+        ensures { number_at_told result ≡ number_at self.entry.bytes.now self.entry.at }
+    {
+        read_number(self.bytes, self.at)
+    }
 }
 
 // The same for callers that hold the bytes and the place themselves.
-pub fn number_at(bytes: &[u8], at: usize) -> Number
-    ensures { result ≡ number_at bytes.now at }
+pub fn number_at(bytes: &[u8], at: usize) -> Result<Number, PlacedRefusal>
+    ensures { number_at_told result ≡ number_at bytes.now at }
 {
-    next_number(reader_at(bytes, at))
+    Reader::reader_at(bytes, at).next_number()
 }

@@ -8,8 +8,8 @@ mod writer;
 
 use net::limit;
 use number::GROUPS;
-pub use reader::{Reading, read_plan};
-pub use writer::{Written, write_plan};
+pub use reader::read_plan;
+pub use writer::write_plan;
 
 // No plan is longer: the two counts take one group each, and a link two groups for its ends and at most three for its weight.
 // specs/Plan.antt says the same to the contracts.

@@ -8,7 +8,7 @@ use lib.ListN.{length}
 use Rattle.net.specs.Refusals.{accepted}
 use Rattle.net.specs.Rows.{Rows}
 use Rattle.net.specs.Failure.{failure_number}
-use Rattle.net.specs.declared.check.Verdict.{Verdict}
+use Rattle.net.specs.Verdict.{Verdict}
 use Rattle.net.specs.declared.failure.Failure.{Failure}
 use Rattle.tables.specs.Lent.{LentTables}
 use Rattle.walk.specs.Lent.{lent_verdict}

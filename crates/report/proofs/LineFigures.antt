@@ -17,7 +17,7 @@ use Rattle.net.specs.Limits.{report_hops}
 use Rattle.net.specs.Refusals.{accepted}
 use Rattle.net.specs.Rows.{Rows, network_of}
 use Rattle.net.specs.Failure.{fails}
-use Rattle.net.specs.declared.check.Verdict.{Verdict}
+use Rattle.net.specs.Verdict.{Verdict}
 use Rattle.net.specs.declared.failure.Failure.{Failure}
 use Rattle.net.specs.declared.failure.Failure.TheVariants.{Nothing, One}
 use Rattle.net.proofs.Accepted.{well_formed}

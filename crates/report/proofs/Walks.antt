@@ -201,6 +201,13 @@ module _ (R : Rows) (T : LentTables) (failure : Failure) where
   unfolding line_of
   sources_all = source_all R.nodes (course_at R T failure)
 
+  -- the same of the values that the code has after its loop
+  pub sources_done : {s : ℕ} {line : Line} → s ≤ R.nodes → R.nodes ≤ s → line ≡ sources_below s R.nodes (course_at R T failure)
+      → line ≡ line_of R T failure
+  sources_done {s} within past sums =
+      let all : s ≡ R.nodes = omega (arith, within, past) in
+      (rw all at sums) ∙ sources_all
+
   pub line_fits : R.nodes ≤ most_nodes → AtMostWalks (most_nodes * most_nodes) (line_of R T failure)
   line_fits few =
       at_most_more (mul-le-mul few few)

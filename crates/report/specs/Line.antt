@@ -1,18 +1,19 @@
 -- One failure line (document 01, "Report program"). Each definition stands under the words that it says.
-use Rattle.std.specs.Prelude.{ℕ, zero, suc, ◌+◌, max, Bool, length, eqb}
+use Rattle.std.specs.Prelude.{ℕ, zero, suc, ◌+◌, max, Bool, length, eqb, Result, Ok, Err}
 use Rattle.graph.specs.Walk.{Ending, delivered, Course}
 use Rattle.net.specs.Limits.{report_hops}
 use Rattle.net.specs.Choice.{pick}
 use Rattle.net.specs.Refusals.{accepted}
 use Rattle.net.specs.Rows.{Rows}
 use Rattle.net.specs.Failure.{failure_number}
-use Rattle.net.specs.declared.check.Verdict.{Verdict}
+use Rattle.net.specs.Told.{number_of}
+use Rattle.net.specs.Verdict.{Verdict}
 use Rattle.net.specs.declared.failure.Failure.{Failure}
+use Rattle.net.specs.declared.refusal.PlacedRefusal.{PlacedRefusal}
 use Rattle.tables.specs.Lent.{LentTables}
 use Rattle.walk.specs.Lent.{lent_verdict}
 use Rattle.walk.specs.Walk.{ending_number, course_of}
 use Rattle.report.specs.declared.counting.Line.{Line}
-use Rattle.report.specs.declared.counting.Figures.{Figures}
 
 -- a sum and a maximum over the numbers below a count
 unfoldable pub sum_below : ℕ → (ℕ → ℕ) → ℕ
@@ -62,8 +63,18 @@ line_of R T failure =
     line_over R.nodes (λ s d. course_of R T s (record { destination = record { 0 = d }; failure = failure }) report_hops)
 
 -- what `failure_line` answers; refused, every figure is 0
+pub record Figures : Type 0 where
+  pub number : ℕ
+  pub place : ℕ
+  pub line : Line
+
 unfoldable pub no_line : Line
 no_line = record { delivered = 0; dropped = 0; hops = 0; longest = 0 }
+
+-- the same of the code's answer, by its cases
+abbrev pub figures_told : Result Line PlacedRefusal → Figures
+figures_told (Ok line) = record { number = accepted; place = 0; line = line }
+figures_told (Err refused) = record { number = number_of refused.refusal; place = refused.place; line = no_line }
 
 unfoldable pub figures_by : Verdict → Line → Figures
 figures_by v line =

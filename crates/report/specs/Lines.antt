@@ -1,17 +1,19 @@
 -- All lines of a report and their totals (document 01, "Report program"). Each definition stands under the words that it says.
-use Rattle.std.specs.Prelude.{ℕ, zero, suc, ◌+◌, ◌-◌, List, [], ◌∷◌, ◌++◌, length, replicate, eqb}
+use Rattle.std.specs.Prelude.{ℕ, zero, suc, ◌+◌, ◌-◌, List, [], ◌∷◌, ◌++◌, length, replicate, eqb, Result, Ok, Err}
 use Rattle.net.specs.Limits.{most_links}
 use Rattle.net.specs.Choice.{pick}
 use Rattle.net.specs.Refusals.{accepted}
 use Rattle.net.specs.Rows.{Rows}
-use Rattle.net.specs.declared.check.Verdict.{Verdict}
+use Rattle.net.specs.Told.{verdict_of}
+use Rattle.net.specs.Verdict.{Verdict}
 use Rattle.net.specs.declared.failure.Failure.{Failure}
 use Rattle.net.specs.declared.failure.Failure.TheVariants.{Nothing, One}
+use Rattle.net.specs.declared.refusal.PlacedRefusal.{PlacedRefusal}
 use Rattle.tables.specs.Lent.{LentTables}
 use Rattle.walk.specs.Lent.{lent_verdict}
 use Rattle.report.specs.Line.{line_of, no_line}
 use Rattle.report.specs.declared.counting.Line.{Line}
-use Rattle.report.specs.declared.totals.Lines.{Lines}
+use Rattle.report.specs.declared.totals.Lines.{Lines as LinesMade}
 
 -- the lines of the failed links from k on, `left` of them
 unfoldable pub link_lines : ℕ → (Failure → Line) → ℕ → List Line
@@ -30,6 +32,15 @@ unfoldable pub dropped_over : List Line → ℕ
 dropped_over [] = 0
 dropped_over (l ∷ lines) = l.dropped + dropped_over lines
 
+-- what `all_lines` answers: number and place, the lines and their totals
+pub record Lines : Type 0 where
+  pub number : ℕ
+  pub place : ℕ
+  pub lines : List Line
+  pub walks : ℕ
+  pub delivered : ℕ
+  pub dropped : ℕ
+
 -- "Last: walks made and the two sums." The answer that holds these lines, with zeros past the last of them
 unfoldable pub lines_held : ℕ → List Line → Lines
 lines_held links lines =
@@ -47,6 +58,22 @@ unfoldable pub lines_refused : Verdict → Lines
 lines_refused v =
     record
     { number = v.number; place = v.place; lines = replicate (suc most_links) no_line; walks = 0; delivered = 0; dropped = 0 }
+
+-- the same of what the code answers: of lines that it made, and of an answer that may refuse
+abbrev pub lines_named : LinesMade → Lines
+lines_named made =
+    record {
+      number = accepted;
+      place = 0;
+      lines = made.lines;
+      walks = made.walks;
+      delivered = made.delivered;
+      dropped = made.dropped;
+    }
+
+abbrev pub lines_told : Result LinesMade PlacedRefusal → Lines
+lines_told (Ok made) = lines_named made
+lines_told (Err refused) = lines_refused (verdict_of refused)
 
 -- what `all_lines` answers: the network's refusals, then 14, 16
 unfoldable pub lines_answer : Rows → LentTables → Lines

@@ -1,11 +1,15 @@
 // One failure line: walks delivered, all other walks, hops summed over delivered walks, most hops of a delivered walk.
 ghost use Rattle.std.specs.Prelude.{◌≡◌};
-ghost use Rattle.report.specs.Line.{no_line, line_of, figures_answer};
+ghost use Rattle.net.specs.Lent.{rows_lent};
+ghost use Rattle.report.specs.Line.{line_of, figures_told, figures_answer};
 ghost use Rattle.report.specs.inner.Counting.{course_at, counted_line, line_below, OneMore, Source};
+ghost use Rattle.tables.specs.Lent.{tables_lent};
+ghost use Rattle.walk.specs.Walk.{ending_number, ending_named};
 ghost use Rattle.walk.specs.inner.Reading.{Ready};
 
-use net::{Failure, Node, failure_number, limit, refusal};
-use walk::inner::{DELIVERED, Outcome, Question, lent_verdict, walk_from};
+use net::{Failure, LentRows, Node, PlacedRefusal, check_failure, limit};
+use tables::Tables;
+use walk::inner::{Ending, Question, Walked, check_lent, walk_from};
 
 #[derive(Clone, Copy)]
 pub struct Line {
@@ -15,188 +19,85 @@ pub struct Line {
     pub longest: usize,
 }
 
-// What the entry answers; after a refusal every figure is 0.
-#[derive(Clone, Copy)]
-pub struct Figures {
-    pub number: u8,
-    pub place: usize,
-    pub line: Line,
-}
-
-pub fn no_walks() -> Line
-    ensures { result ≡ no_line }
-{
-    Line {
-        delivered: 0,
-        dropped: 0,
-        hops: 0,
-        longest: 0,
-    }
-}
+// Before any walk.
+pub const NO_WALKS: Line = Line {
+    delivered: 0,
+    dropped: 0,
+    hops: 0,
+    longest: 0,
+};
 
 // The line with one walk more.
 #[tactic(auto, unfolding(crate::specs::inner::Counting::counted_line, walk::specs::Walk::ending_number))]
-fn counted(line: Line, outcome: Outcome) -> Line
-    requires { OneMore line outcome.hops }
-    ensures { result ≡ counted_line line outcome.ending outcome.hops }
+fn counted(line: Line, walked: Walked) -> Line
+    requires { OneMore line walked.hops }
+    ensures { result ≡ counted_line line (ending_number (ending_named walked.ending)) walked.hops }
 {
-    if outcome.ending != DELIVERED {
+    if walked.ending != Ending::Delivered {
         return Line {
-            delivered: line.delivered,
             dropped: line.dropped + 1,
-            hops: line.hops,
-            longest: line.longest,
+            ..line
         };
-    }
-    let mut longest = line.longest;
-    if longest < outcome.hops {
-        longest = outcome.hops;
     }
     Line {
         delivered: line.delivered + 1,
-        dropped: line.dropped,
-        hops: line.hops + outcome.hops,
-        longest: longest,
+        hops: line.hops + walked.hops,
+        longest: line.longest.max(walked.hops),
+        ..line
     }
 }
 
 // The walks from one source, over tables that have been checked.
-#[tactic(auto, using(crate::proofs::Walks::walk_counted, crate::proofs::Walks::counted_own))]
+#[tactic(auto, using(crate::proofs::Walks::walk_counted, crate::proofs::Walks::counted_own, crate::proofs::Walks::counted_none))]
 fn line_from(
     line: Line,
-    n: usize,
-    low: &[u8],
-    high: &[u8],
-    weight: &[u32],
-    routing: &[u8],
-    forwarding: &[u8],
-    backwarding: &[u8],
+    network: &LentRows<'_>,
+    tables: &Tables<'_>,
     failure: Failure,
     source: Node,
     trace: &mut [u8],
 ) -> Line
-    requires { Source (record { nodes = n; low = low.now; high = high.now; weight = weight.now })
-        (record { routing = routing.now; forwarding = forwarding.now; backwarding = backwarding.now })
-        source.0 line trace.old }
-    ensures { result ≡ line_below n source.0
-        (course_at (record { nodes = n; low = low.now; high = high.now; weight = weight.now })
-        (record { routing = routing.now; forwarding = forwarding.now; backwarding = backwarding.now })
-        failure source.0) line }
+    requires { Source (rows_lent network.now) (tables_lent tables.now) source.0 line trace.old }
+    ensures { result ≡ line_below network.now.nodes source.0
+        (course_at (rows_lent network.now) (tables_lent tables.now) failure source.0) line }
 {
     let mut sum = line;
-    let mut d: usize = 0;
-    while d < n {
-        if d != source.0 {
+    for d in 0..network.nodes {
+        let destination = Node(d);
+        if destination != source {
             let question = Question {
-                destination: Node(d),
-                failure: failure,
+                destination,
+                failure,
             };
-            let outcome = walk_from(
-                n,
-                low,
-                high,
-                weight,
-                routing,
-                forwarding,
-                backwarding,
-                source,
-                question,
-                limit::REPORT_HOPS,
-                trace,
-            );
-            let more = counted(sum, outcome);
-            sum = more;
+            let walked = walk_from(network, tables, source, question, limit::REPORT_HOPS, trace);
+            sum = counted(sum, walked);
         }
-        d += 1;
     }
     sum
 }
 
 // All walks of a failure, over tables that have been checked.
-pub fn line_of(
-    n: usize,
-    low: &[u8],
-    high: &[u8],
-    weight: &[u32],
-    routing: &[u8],
-    forwarding: &[u8],
-    backwarding: &[u8],
-    failure: Failure,
-) -> Line
-    requires { Ready (record { nodes = n; low = low.now; high = high.now; weight = weight.now })
-        (record { routing = routing.now; forwarding = forwarding.now; backwarding = backwarding.now }) }
-    ensures { result ≡ line_of (record { nodes = n; low = low.now; high = high.now; weight = weight.now })
-        (record { routing = routing.now; forwarding = forwarding.now; backwarding = backwarding.now })
-        failure }
+#[tactic(auto, using(crate::proofs::Walks::course_short, crate::proofs::Walks::source_none, crate::proofs::Walks::source_counted, crate::proofs::Walks::sources_done, crate::proofs::Walks::sources_at_most), unfolding(crate::specs::Line::no_line))]
+pub fn line_of(network: &LentRows<'_>, tables: &Tables<'_>, failure: Failure) -> Line
+    requires { Ready (rows_lent network.now) (tables_lent tables.now) }
+    ensures { result ≡ line_of (rows_lent network.now) (tables_lent tables.now) failure }
 {
     let mut trace = [0u8; limit::REPORT_HOPS + 1];
-    let mut line = no_walks();
-    let mut s: usize = 0;
-    while s < n {
-        let more = line_from(
-            line,
-            n,
-            low,
-            high,
-            weight,
-            routing,
-            forwarding,
-            backwarding,
-            failure,
-            Node(s),
-            &mut trace,
-        );
-        line = more;
-        s += 1;
+    let mut line = NO_WALKS;
+    for s in 0..network.nodes {
+        line = line_from(line, network, tables, failure, Node(s), &mut trace);
     }
     line
 }
 
+// The line of a failure, or the refusal of network, failure and tables, in that order.
 pub fn failure_line(
-    n: usize,
-    low: &[u8],
-    high: &[u8],
-    weight: &[u32],
-    routing: &[u8],
-    forwarding: &[u8],
-    backwarding: &[u8],
+    network: &LentRows<'_>,
+    tables: &Tables<'_>,
     failure: Failure,
-) -> Figures
-    ensures { result ≡ figures_answer
-        (record { nodes = n; low = low.now; high = high.now; weight = weight.now })
-        (record { routing = routing.now; forwarding = forwarding.now; backwarding = backwarding.now })
-        failure }
+) -> Result<Line, PlacedRefusal>
+    ensures { figures_told result ≡ figures_answer (rows_lent network.now) (tables_lent tables.now) failure }
 {
-    let number = failure_number(low.len(), failure);
-    let verdict = lent_verdict(
-        n,
-        low,
-        high,
-        weight,
-        number,
-        routing,
-        forwarding,
-        backwarding,
-    );
-    if verdict.number != refusal::NONE {
-        return Figures {
-            number: verdict.number,
-            place: verdict.place,
-            line: no_walks(),
-        };
-    }
-    Figures {
-        number: refusal::NONE,
-        place: 0,
-        line: line_of(
-            n,
-            low,
-            high,
-            weight,
-            routing,
-            forwarding,
-            backwarding,
-            failure,
-        ),
-    }
+    check_lent(network, check_failure(network.low.len(), failure), tables)?;
+    Ok(line_of(network, tables, failure))
 }

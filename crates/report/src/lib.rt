@@ -4,5 +4,5 @@
 mod counting;
 mod totals;
 
-pub use counting::{Figures, Line, failure_line};
+pub use counting::{Line, failure_line};
 pub use totals::{Lines, all_lines};

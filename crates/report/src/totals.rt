@@ -1,122 +1,54 @@
 // All lines of a report: without failure and for each failed link, and their totals. The tables are checked once.
 ghost use Rattle.std.specs.Prelude.{◌≡◌, length};
+ghost use Rattle.net.specs.Lent.{rows_lent};
 ghost use Rattle.report.specs.Line.{line_of};
-ghost use Rattle.report.specs.Lines.{lines_over, lines_held, lines_refused, lines_answer};
+ghost use Rattle.report.specs.Lines.{lines_over, lines_held, lines_named, lines_told, lines_answer};
+ghost use Rattle.tables.specs.Lent.{tables_lent};
 ghost use Rattle.walk.specs.inner.Reading.{Ready};
 
-use crate::counting::{Line, line_of, no_walks};
-use net::{Failure, Link, Verdict, limit, refusal};
-use walk::inner::lent_verdict;
+use crate::counting::{Line, NO_WALKS, line_of};
+use net::{Failure, LentRows, Link, PlacedRefusal, limit};
+use tables::Tables;
+use walk::inner::check_lent;
 
-// Line 0 is that without failure, line k + 1 that of link k; the places past the last are 0, and so is everything after a refusal.
+// Line 0 is that without failure, line k + 1 that of link k; the places past the last are 0.
 #[derive(Clone, Copy)]
 pub struct Lines {
-    pub number: u8,
-    pub place: usize,
     pub lines: [Line; limit::LINKS + 1],
     pub walks: usize,
     pub delivered: usize,
     pub dropped: usize,
 }
 
-fn refused(verdict: Verdict) -> Lines
-    ensures { result ≡ lines_refused verdict }
+#[tactic(auto, using(crate::proofs::AllLines::held_fits, crate::proofs::AllLines::held_on_fits, crate::proofs::AllLines::held_done))]
+fn lines_of(network: &LentRows<'_>, tables: &Tables<'_>) -> Lines
+    requires { Ready (rows_lent network.now) (tables_lent tables.now) }
+    ensures { lines_named result ≡ lines_held (length network.now.low.now)
+        (lines_over (length network.now.low.now) (line_of (rows_lent network.now) (tables_lent tables.now))) }
 {
-    let none = no_walks();
-    let lines = [none; limit::LINKS + 1];
-    Lines {
-        number: verdict.number,
-        place: verdict.place,
-        lines: lines,
-        walks: 0,
-        delivered: 0,
-        dropped: 0,
-    }
-}
-
-fn lines_of(
-    n: usize,
-    low: &[u8],
-    high: &[u8],
-    weight: &[u32],
-    routing: &[u8],
-    forwarding: &[u8],
-    backwarding: &[u8],
-) -> Lines
-    requires { Ready (record { nodes = n; low = low.now; high = high.now; weight = weight.now })
-        (record { routing = routing.now; forwarding = forwarding.now; backwarding = backwarding.now }) }
-    ensures { result ≡ lines_held (length low.now)
-        (lines_over (length low.now)
-        (line_of (record { nodes = n; low = low.now; high = high.now; weight = weight.now })
-        (record { routing = routing.now; forwarding = forwarding.now; backwarding = backwarding.now }))) }
-{
-    let none = no_walks();
-    let mut lines = [none; limit::LINKS + 1];
-    let first = line_of(
-        n,
-        low,
-        high,
-        weight,
-        routing,
-        forwarding,
-        backwarding,
-        Failure::Nothing,
-    );
+    let mut lines = [NO_WALKS; limit::LINKS + 1];
+    let first = line_of(network, tables, Failure::Nothing);
     lines[0] = first;
     let mut delivered = first.delivered;
     let mut dropped = first.dropped;
-    let links = low.len();
-    let mut k: usize = 0;
-    while k < links {
-        let line = line_of(
-            n,
-            low,
-            high,
-            weight,
-            routing,
-            forwarding,
-            backwarding,
-            Failure::One(Link(k)),
-        );
-        k += 1;
-        lines[k] = line;
+    for k in 0..network.low.len() {
+        let line = line_of(network, tables, Failure::One(Link(k)));
+        lines[k + 1] = line;
         delivered += line.delivered;
         dropped += line.dropped;
     }
     Lines {
-        number: refusal::NONE,
-        place: 0,
-        lines: lines,
+        lines,
         walks: delivered + dropped,
-        delivered: delivered,
-        dropped: dropped,
+        delivered,
+        dropped,
     }
 }
 
-pub fn all_lines(
-    n: usize,
-    low: &[u8],
-    high: &[u8],
-    weight: &[u32],
-    routing: &[u8],
-    forwarding: &[u8],
-    backwarding: &[u8],
-) -> Lines
-    ensures { result ≡ lines_answer (record { nodes = n; low = low.now; high = high.now; weight = weight.now })
-        (record { routing = routing.now; forwarding = forwarding.now; backwarding = backwarding.now }) }
+// All lines, or the refusal of network and tables.
+pub fn all_lines(network: &LentRows<'_>, tables: &Tables<'_>) -> Result<Lines, PlacedRefusal>
+    ensures { lines_told result ≡ lines_answer (rows_lent network.now) (tables_lent tables.now) }
 {
-    let verdict = lent_verdict(
-        n,
-        low,
-        high,
-        weight,
-        refusal::NONE,
-        routing,
-        forwarding,
-        backwarding,
-    );
-    if verdict.number != refusal::NONE {
-        return refused(verdict);
-    }
-    lines_of(n, low, high, weight, routing, forwarding, backwarding)
+    check_lent(network, Ok(()), tables)?;
+    Ok(lines_of(network, tables))
 }

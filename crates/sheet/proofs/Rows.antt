@@ -24,7 +24,7 @@ use Rattle.net.proofs.Accepted.{check_accepts, well_formed}
 use Rattle.plan.specs.Number.{groups_of, stored, groups_from, number_at}
 use Rattle.plan.specs.Reader.{refusal, take_weight, weight_at, take_difference, difference_at, take_low, link_at, take_link, links_read}
 use Rattle.plan.specs.Reader.{take_link_count, link_count_at, take_node_count, read_plan}
-use Rattle.plan.specs.declared.reader.Reading.{Reading}
+use Rattle.plan.specs.Reader.{Reading}
 use Rattle.net.specs.inner.LinkSet.{value as set_value, no_links, with_link, has_link, is_empty, comes_before, meeting}
 use Rattle.paths.specs.inner.Cost.{no_cost, here_cost, is_known, before, extended}
 use Rattle.paths.specs.inner.Column.{entry_at}

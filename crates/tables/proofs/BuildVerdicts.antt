@@ -8,11 +8,13 @@ use lib.ListN.{length}
 use Rattle.net.specs.Refusals.{accepted, table_length}
 use Rattle.net.specs.Rows.{Rows}
 use Rattle.net.specs.Check.{check_network, verdict, Accepted}
-use Rattle.net.specs.declared.check.Verdict.{Verdict}
+use Rattle.net.specs.Verdict.{Verdict}
 use Rattle.net.proofs.Accepted.{accepts_check, check_accepts}
+use Rattle.net.proofs.Told.{number_refuses}
 use Rattle.net.proofs.Verdicts.{or_else_first, or_else_second, first_accepted, second_accepted, not_refused, is_refused, passed_test}
 use Rattle.tables.specs.Lent.{LentTables, tables_short, LongEnough}
 use Rattle.tables.specs.Build.{build_verdict}
+use Rattle.tables.specs.inner.Given.{WithinLimits}
 use Rattle.tables.proofs.Lengths.{tables_long}
 
 module _ (R : Rows) where
@@ -23,8 +25,14 @@ module _ (R : Rows) where
     checked : v.number ≡ accepted → (check_network R).number ≡ accepted
     checked free = sym (ap (λ (u : Verdict). u.number) is) ∙ free
 
-    pub network_accepted : v.number ≡ accepted → Accepted R
+    network_accepted : v.number ≡ accepted → Accepted R
     network_accepted free = check_accepts R (checked free)
+
+    -- so that its counts are within the limits
+    pub network_within : v.number ≡ accepted → WithinLimits n (length low)
+    network_within free =
+        let network = network_accepted free in
+        record { few_nodes = network.few_nodes; few_links = network.few_links }
 
     module _ (T : LentTables) where
       pub network_refused : v.number ≢ accepted → v ≡ build_verdict R T
@@ -52,3 +60,6 @@ module _ (R : Rows) where
     pub build_room : LongEnough n (length low) T
     unfolding build_verdict
     build_room = tables_long (passed_test _ table_length (λ e. omega arith) (second_accepted _ _ whole))
+
+-- what the code's check of all of it needs
+pub ruleset build_verdicts = (network_refused, tables_refused, tables_accepted, number_refuses)

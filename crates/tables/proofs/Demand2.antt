@@ -14,14 +14,13 @@ use Rattle.net.specs.Refusals.{accepted, table_length, interface_number, node_nu
 use Rattle.net.specs.Check.{Accepted, verdict, check_network, or_else, refused_if}
 use Rattle.net.specs.Rows.{Rows, network_of}
 use Rattle.net.specs.Entry.{EntryByte}
-use Rattle.net.specs.declared.check.Verdict.{Verdict}
+use Rattle.net.specs.Verdict.{Verdict}
 use Rattle.net.proofs.Accepted.{accepts_check, well_formed}
 use Rattle.net.proofs.Verdicts.{or_else_second, not_refused}
-use Rattle.tables.specs.Key.{key_links_verdict, KeyLinksAnswer}
+use Rattle.tables.specs.Key.{KeyLinks, key_links_verdict, KeyLinksAnswer}
 use Rattle.tables.specs.Build.{build_verdict, BuildAnswer}
 use Rattle.tables.specs.Lent.{LentTables, LongEnough}
 use Rattle.tables.specs.Demand2.{TheEntry, Demand2}
-use Rattle.tables.specs.declared.key.KeyLinks.{KeyLinks}
 use Rattle.tables.proofs.Lengths.{long_tables}
 
 -- a byte that is an entry's is the byte of the only one

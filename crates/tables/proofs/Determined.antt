@@ -4,19 +4,23 @@
 use Prim.Native.Nat.{ℕ}
 use mathlib.Core.Path.{◌≡◌, sym, ap, ◌∙◌}
 use mathlib.Core.List.{List}
+use Rattle.std.specs.Prelude.{Result, Ok, Err}
 use native.Mathlib.Decide.{ℕ_discrete}
 use Rattle.graph.specs.Network.{WellFormed}
 use Rattle.graph.proofs.Sets.{set_one}
 use Rattle.net.specs.Refusals.{accepted}
 use Rattle.net.specs.Rows.{Rows, network_of}
-use Rattle.net.specs.declared.check.Verdict.{Verdict}
+use Rattle.net.specs.Told.{number_told}
+use Rattle.net.specs.Verdict.{Verdict}
+use Rattle.net.specs.declared.refusal.Refusal.{Refusal}
+use Rattle.net.specs.declared.refusal.PlacedRefusal.{PlacedRefusal}
 use Rattle.net.proofs.Accepted.{well_formed}
 use Rattle.net.proofs.Bytes.{byte_one}
+use Rattle.net.proofs.Told.{number_refuses, refusal_once, number_told_once}
 use Rattle.tables.specs.Lent.{LentTables}
-use Rattle.tables.specs.Key.{KeyLinksAnswer}
+use Rattle.tables.specs.Key.{KeyLinks, key_links_told, KeyLinksAnswer}
 use Rattle.tables.specs.Build.{build_verdict, BuildAnswer}
 use Rattle.tables.specs.Row.{row_check, row_of}
-use Rattle.tables.specs.declared.key.KeyLinks.{KeyLinks}
 use Rattle.tables.proofs.Filling.{filled_one}
 use Rattle.tables.proofs.BuildVerdicts.{build_accepted}
 
@@ -24,6 +28,14 @@ use Rattle.tables.proofs.BuildVerdicts.{build_accepted}
 pub record SameBuild (x y : Verdict) (T U : LentTables) : Type 0 where
   pub verdict : x ≡ y
   pub tables : T ≡ U
+
+-- what `key_links` tells determines its answer
+pub key_links_told_once : (x y : Result ℕ PlacedRefusal) → key_links_told x ≡ key_links_told y → x ≡ y
+key_links_told_once (Ok a) (Ok b) e = ap Ok (ap (λ (r : KeyLinks). r.links) e)
+key_links_told_once (Ok a) (Err b) e = absurd (number_refuses b.refusal (sym (ap (λ (r : KeyLinks). r.number) e)))
+key_links_told_once (Err a) (Ok b) e = absurd (number_refuses a.refusal (ap (λ (r : KeyLinks). r.number) e))
+key_links_told_once (Err a) (Err b) e =
+    ap Err (refusal_once a b (ap (λ (r : KeyLinks). record { number = r.number; place = r.place }) e))
 
 module _ (R : Rows) where
   pub key_links_answer_one : {h d : ℕ} {x y : KeyLinks} → KeyLinksAnswer R h d x → KeyLinksAnswer R h d y → x ≡ y
@@ -68,8 +80,8 @@ module _ (R : Rows) where
 
 -- the row look-up and its check say what they answer
 module _ (table : List ℕ) (n i : ℕ) where
-  pub row_check_one : {x y : ℕ} → x ≡ row_check table n i → y ≡ row_check table n i → x ≡ y
-  row_check_one p q = p ∙ sym q
+  pub row_check_one : {x y : Result Unit Refusal} → number_told x ≡ row_check table n i → number_told y ≡ row_check table n i → x ≡ y
+  row_check_one {x} {y} p q = number_told_once x y (p ∙ sym q)
 
   pub row_of_one : {x y : List ℕ} → x ≡ row_of table n i → y ≡ row_of table n i → x ≡ y
   row_of_one p q = p ∙ sym q

@@ -11,8 +11,9 @@ use Rattle.graph.specs.Network.{link}
 use Rattle.net.specs.Refusals.{accepted, interface_number, node_number}
 use Rattle.net.specs.Check.{verdict, check_network, refused_if}
 use Rattle.net.specs.Rows.{Rows}
-use Rattle.net.specs.declared.check.Verdict.{Verdict}
+use Rattle.net.specs.Verdict.{Verdict}
 use Rattle.net.proofs.Accepted.{accepts_check, check_accepts}
+use Rattle.net.proofs.Told.{number_refuses}
 use Rattle.net.proofs.Verdicts.{or_else_first, or_else_second, first_accepted, second_accepted, is_refused, not_refused, passed_test}
 use Rattle.tables.specs.Key.{key_links_verdict}
 use Rattle.tables.specs.inner.Given.{Asked}
@@ -74,3 +75,6 @@ module _ (R : Rows) (h d : ℕ) where
       let below = asked.interface in
       let checked = accepts_check R asked.network in
       keys_accepted (ap (λ v. v.number) checked) (omega arith) asked.destination ∙ checked
+
+-- what the code's check of a question needs
+pub ruleset key_verdicts = (network_refused, interface_refused, destination_refused, keys_accepted, number_refuses)

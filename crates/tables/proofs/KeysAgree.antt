@@ -15,8 +15,7 @@ use Rattle.net.proofs.Accepted.{well_formed}
 use Rattle.net.proofs.Rows.{interface_present}
 use Rattle.paths.specs.inner.Square.{cell, BestSquare}
 use Rattle.paths.specs.declared.cost.Cost.{Cost}
-use Rattle.tables.specs.Key.{KeyLinksAnswer}
-use Rattle.tables.specs.declared.key.KeyLinks.{KeyLinks}
+use Rattle.tables.specs.Key.{KeyLinks, KeyLinksAnswer}
 use Rattle.tables.specs.declared.kept.Kept.{Kept}
 use Rattle.tables.specs.inner.Detours.{keys_for, kept_for, kept_at, SquareKept}
 use Rattle.tables.proofs.KeptKeys.{kept_keys}

@@ -49,6 +49,9 @@ module _ (n links : ℕ) (T : LentTables) where
     unfolding tables_short
     backwarding_left longer = simp (le-ltb _ _ long, le-ltb _ _ longer)
 
+-- what the code's test needs
+pub ruleset lengths = (routing_short, forwarding_short, backwarding_left)
+
 -- the products
 module _ {n links : ℕ} (G : WithinLimits n links) where
   pub few_squared : n * n ≤ most_nodes * most_nodes

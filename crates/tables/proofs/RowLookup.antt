@@ -15,6 +15,7 @@ use Rattle.net.specs.Refusals.{accepted, node_count, interface_number}
 use Rattle.net.specs.Choice.{pick}
 use Rattle.net.specs.Check.{bad_node_count}
 use Rattle.net.proofs.Faults.{no_nodes}
+use Rattle.net.proofs.Told.{number_refuses}
 use Rattle.tables.specs.Row.{row_check, row_of}
 
 -- a number not below the count of whole rows is that of a row that ends past the table's end
@@ -69,3 +70,8 @@ module _ (table : List ℕ) (n i : ℕ) where
   row_found e =
       let width : i * n + n - i * n ≡ n = omega arith in
       rw (width, eq-eqb _ _ e)
+
+-- what the code's check of a look-up needs, and its part of the table
+pub ruleset row_tests = (row_nodes_refused, some_node, row_past, row_inside)
+
+pub ruleset row_parts = (row_end, row_refused, row_found, number_refuses)

@@ -5,7 +5,7 @@ use Rattle.graph.specs.Network.{Network}
 use Rattle.net.specs.Refusals.{accepted, table_length}
 use Rattle.net.specs.Rows.{Rows, network_of}
 use Rattle.net.specs.Check.{check_network, or_else, refused_if}
-use Rattle.net.specs.declared.check.Verdict.{Verdict}
+use Rattle.net.specs.Verdict.{Verdict}
 use Rattle.tables.specs.Lent.{LentTables, tables_short}
 use Rattle.tables.specs.Entry.{Filled, RoutingByte, ForwardingByte, BackwardingByte}
 

@@ -6,10 +6,9 @@ use Rattle.graph.specs.Entries.{Hop, RoutingEntry, ForwardingEntry, BackwardingE
 use Rattle.net.specs.Refusals.{accepted}
 use Rattle.net.specs.Entry.{byte_of}
 use Rattle.net.specs.Rows.{Rows, network_of}
-use Rattle.net.specs.declared.check.Verdict.{Verdict}
+use Rattle.net.specs.Verdict.{Verdict}
 use Rattle.tables.specs.Lent.{LentTables}
-use Rattle.tables.specs.declared.key.KeyLinks.{KeyLinks}
-use Rattle.tables.specs.Key.{KeyLinksAnswer}
+use Rattle.tables.specs.Key.{KeyLinks, KeyLinksAnswer}
 
 -- the byte of the one entry that a definition allows
 pub record TheEntry (Defined : Hop → Type 0) (byte : ℕ) : Type 0 where

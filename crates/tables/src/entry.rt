@@ -1,33 +1,32 @@
 // One entry as a byte: a link; 254 where the destination is the deciding node itself (checked first); 255 where no path exists.
-// A row of n entries is filled as that part of the lent table.
-ghost use Rattle.std.specs.Prelude.{◌≡◌};
+// A row is filled as that part of the lent table.
+ghost use Rattle.std.specs.Prelude.{◌≡◌, ◌≤◌, length};
+ghost use Rattle.net.specs.Limits.{most_nodes};
 ghost use Rattle.tables.specs.inner.EntryRow.{entry_byte, entry_row};
-ghost use Rattle.tables.specs.inner.Given.{OneRow};
 
-use net::{entry, limit};
-use paths::inner::{Cost, known};
+use net::{Node, entry, limit};
+use paths::inner::Cost;
 
 // The entry of node i for d that a cost gives.
-pub fn entry_byte(i: usize, d: usize, c: Cost) -> u8
-    ensures { result ≡ entry_byte i d c }
+#[tactic(auto, unfolding(crate::specs::inner::EntryRow::entry_byte))]
+pub fn entry_byte(i: Node, d: Node, c: Cost) -> u8
+    ensures { result ≡ entry_byte i.0 d.0 c }
 {
     if i == d {
         return entry::HERE;
     }
-    if known(c) {
+    if c.known() {
         return entry::onward(c.first);
     }
     entry::NOWHERE
 }
 
-// Fills one row: the entries of node i for the destinations 0 to n - 1.
-pub fn fill_row(row: &mut [u8], n: usize, i: usize, costs: [Cost; limit::NODES])
-    requires { OneRow n row.old }
-    ensures { row.new ≡ entry_row n i 0 costs }
+// Fills one row: the entries of node i for the destinations from 0 on.
+pub fn fill_row(row: &mut [u8], i: Node, costs: [Cost; limit::NODES])
+    requires { length row.old ≤ most_nodes }
+    ensures { row.new ≡ entry_row (length row.old) i.0 0 costs }
 {
-    let mut d: usize = 0;
-    while d < n {
-        row[d] = entry_byte(i, d, costs[d]);
-        d += 1;
+    for d in 0..row.len() {
+        row[d] = entry_byte(i, Node(d), costs[d]);
     }
 }

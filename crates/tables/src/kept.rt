@@ -3,159 +3,123 @@
 // destination, as the square of costs has.
 ghost use Rattle.std.specs.Prelude.{◌≡◌, ℕ, suc, ◌≤◌, ◌<◌};
 ghost use Rattle.net.specs.Limits.{most_nodes, most_links};
+ghost use Rattle.net.specs.Lent.{rows_lent};
 ghost use Rattle.net.specs.Rows.{network_of};
 ghost use Rattle.tables.specs.inner.Detours.{dearer_of, noted, keys_for, none_kept, kept_for, kept_at, AllKept, SquareKept};
 ghost use Rattle.tables.specs.inner.Given.{Trying, TryingAll};
 
-use crate::key::{crosses_link, is_key};
-use net::{Interface, Link, LinkSet, end_at, head_of, limit, link_set, reverse_of};
-use paths::inner::{Cost, comes_before, here_cost, known};
+use crate::key::{Trial, crosses_link};
+use net::{Interface, LentRows, Link, LinkSet, Node, end_at, limit, reverse_of};
+use paths::inner::Cost;
 
 // The key links found so far of the interface by which the node after this one would send the packet back, and the dearest of the best
-// paths that avoid one of them each.
+// paths that avoid one of them each. Where none was found the detour says nothing; an Option of it would cost a tag in each place of a
+// square, which is copied (`UNKNOWN` in `paths/src/cost.rt` has the sizes).
 #[derive(Clone, Copy)]
 pub struct Kept {
     pub keys: LinkSet,
     pub detour: Cost,
 }
 
+#[tactic(auto, unfolding(crate::specs::inner::Detours::dearer_of))]
 fn dearer(a: Cost, b: Cost) -> Cost
     ensures { result ≡ dearer_of a b }
 {
-    if comes_before(a, b) {
+    if a.comes_before(b) {
         return b;
     }
     a
 }
 
-// What is kept for a node after link k was tried. The costs are those that `is_key` asks for.
-fn noted(
-    kept: Kept,
-    k: usize,
-    whole: Cost,
-    after: Cost,
-    ahead: Cost,
-    one: Cost,
-    other: Cost,
-) -> Kept
-    requires { k < most_links }
-    ensures { result ≡ noted kept k whole after ahead one other }
+// What is kept for a node after a link was tried.
+#[tactic(auto, unfolding(crate::specs::inner::Detours::noted))]
+fn noted(kept: Kept, link: Link, trial: &Trial) -> Kept
+    requires { link.0 < most_links }
+    ensures { result ≡ noted kept link.0 trial.now.whole trial.now.after trial.now.ahead trial.now.one trial.now.other }
 {
-    let back = reverse_of(Interface(whole.first as usize));
-    if is_key(back, whole, after, ahead, one, other) {
-        let keys = kept.keys;
-        let detour = kept.detour;
+    let back = reverse_of(Interface(trial.whole.first as usize));
+    if trial.is_key(back) {
         return Kept {
-            keys: link_set::with_link(keys, Link(k)),
-            detour: dearer(detour, after),
+            keys: kept.keys.with_link(link),
+            detour: dearer(kept.detour, trial.after),
         };
     }
     kept
 }
 
-// Tries link k for one destination, with the column without it, for every node. A key link lies on the node's own best path, so that a
+// Tries a link for one destination, with the column without it, for every node. A key link lies on the node's own best path, so that a
 // link which that path does not cross needs no trying.
 fn note_column(
     kept: [Kept; limit::NODES],
     all: [Cost; limit::NODES],
     without: [Cost; limit::NODES],
-    n: usize,
-    low: &[u8],
-    high: &[u8],
-    weight: &[u32],
-    d: usize,
-    k: usize,
+    network: &LentRows<'_>,
+    destination: Node,
+    link: Link,
 ) -> [Kept; limit::NODES]
-    requires { Trying (record { nodes = n; low = low.now; high = high.now; weight = weight.now }) d k all without kept }
-    ensures { AllKept
-        (network_of (record { nodes = n; low = low.now; high = high.now; weight = weight.now }))
-        d (suc k) all result }
+    requires { Trying (rows_lent network.now) destination.0 link.0 all without kept }
+    ensures { AllKept (network_of (rows_lent network.now)) destination.0 (suc link.0) all result }
 {
-    let one = without[end_at(low, k)];
-    let other = without[end_at(high, k)];
+    let one = without[end_at(network.low, link.0)];
+    let other = without[end_at(network.high, link.0)];
     let mut next = kept;
-    let mut i: usize = 0;
-    while i < n {
+    for i in 0..network.nodes {
         let whole = all[i];
-        if crosses_link(whole, Link(k)) {
-            let j = head_of(Interface(whole.first as usize), low, high).0;
-            next[i] = noted(next[i], k, whole, without[i], without[j], one, other);
+        if crosses_link(whole, link) {
+            let j = network.head_of(Interface(whole.first as usize));
+            let trial = Trial {
+                whole,
+                after: without[i],
+                ahead: without[j.0],
+                one,
+                other,
+            };
+            next[i] = noted(next[i], link, &trial);
         }
-        i += 1;
     }
     next
 }
 
-// Tries link k, with the square without it, for every destination.
+// Tries a link, with the square without it, for every destination.
 pub fn note_link(
     kept: [[Kept; limit::NODES]; limit::NODES],
     all: [[Cost; limit::NODES]; limit::NODES],
     without: [[Cost; limit::NODES]; limit::NODES],
-    n: usize,
-    low: &[u8],
-    high: &[u8],
-    weight: &[u32],
-    k: usize,
+    network: &LentRows<'_>,
+    link: Link,
 ) -> [[Kept; limit::NODES]; limit::NODES]
-    requires { TryingAll (record { nodes = n; low = low.now; high = high.now; weight = weight.now }) k all without kept }
-    ensures { SquareKept
-        (network_of (record { nodes = n; low = low.now; high = high.now; weight = weight.now }))
-        (suc k) all result }
+    requires { TryingAll (rows_lent network.now) link.0 all without kept }
+    ensures { SquareKept (network_of (rows_lent network.now)) (suc link.0) all result }
 {
     let mut next = kept;
-    let mut d: usize = 0;
-    while d < n {
-        let old = next[d];
-        let whole = all[d];
-        let less = without[d];
-        let new = note_column(old, whole, less, n, low, high, weight, d, k);
-        next[d] = new;
-        d += 1;
+    for d in 0..network.nodes {
+        next[d] = note_column(next[d], all[d], without[d], network, Node(d), link);
     }
     next
 }
 
 // Nothing tried yet.
+#[tactic(auto, unfolding(crate::specs::inner::Detours::none_kept, crate::specs::inner::Detours::nothing_kept))]
 pub fn none_kept() -> [[Kept; limit::NODES]; limit::NODES]
     ensures { result ≡ none_kept }
 {
     let nothing = Kept {
-        keys: link_set::empty(),
-        detour: here_cost(),
+        keys: LinkSet::empty(),
+        detour: Cost::here(),
     };
     [[nothing; limit::NODES]; limit::NODES]
 }
 
-// The same by node: row i has what is kept for node i and each of n destinations, as `by_node` turns a square of costs.
-pub fn kept_by_node(
-    kept: [[Kept; limit::NODES]; limit::NODES],
-    n: usize,
-) -> [[Kept; limit::NODES]; limit::NODES]
-    requires { n ≤ most_nodes }
-    ensures { (i d : ℕ) → i < n → d < n → kept_at (kept_for result i) d ≡ kept_at (kept_for kept d) i }
-{
-    let mut turned = kept;
-    let mut i: usize = 0;
-    while i < n {
-        let mut d: usize = 0;
-        while d < n {
-            turned[i][d] = kept[d][i];
-            d += 1;
-        }
-        i += 1;
-    }
-    turned
-}
-
 // The key links of interface h, by its head's cost over all links and what is kept for its head.
+#[tactic(auto, using(std::proofs::lemmas::Bool::Decides::nat_tests), unfolding(crate::specs::inner::Detours::keys_for))]
 pub fn keys_for(h: Interface, whole: Cost, kept: Kept) -> LinkSet
     ensures { result ≡ keys_for h.0 whole kept }
 {
-    if !known(whole) {
-        return link_set::empty();
+    if !whole.known() {
+        return LinkSet::empty();
     }
-    if whole.first as usize != reverse_of(h).0 {
-        return link_set::empty();
+    if Interface(whole.first as usize) != reverse_of(h) {
+        return LinkSet::empty();
     }
     kept.keys
 }

@@ -1,26 +1,28 @@
-// How long the three lent tables must be: a row of n bytes for each node, and one for each interface.
+// The three tables as a caller lends them, and how long they must be: a row of n bytes for each node, and one for each interface.
 ghost use Rattle.std.specs.Prelude.{◌≡◌};
-ghost use Rattle.tables.specs.Lent.{tables_short};
+ghost use Rattle.tables.specs.Lent.{tables_lent, tables_short};
 ghost use Rattle.tables.specs.inner.Given.{WithinLimits};
 
+// Nothing is promised of the tables: who reads them checks them first.
+#[derive(Clone, Copy)]
+pub struct Tables<'a> {
+    pub routing: &'a [u8],
+    pub forwarding: &'a [u8],
+    pub backwarding: &'a [u8],
+}
+
 // Whether one of them is shorter than its rows.
-pub fn tables_short(
-    n: usize,
-    links: usize,
-    routing: &[u8],
-    forwarding: &[u8],
-    backwarding: &[u8],
-) -> bool
+#[tactic(auto, using(crate::proofs::Lengths::lengths))]
+pub fn tables_short(n: usize, links: usize, tables: &Tables<'_>) -> bool
     requires { WithinLimits n links }
-    ensures { result ≡ tables_short n links
-        (record { routing = routing.now; forwarding = forwarding.now; backwarding = backwarding.now }) }
+    ensures { result ≡ tables_short n links (tables_lent tables.now) }
 {
-    if routing.len() < n * n {
+    if tables.routing.len() < n * n {
         return true;
     }
     let rows = 2 * links * n;
-    if forwarding.len() < rows {
+    if tables.forwarding.len() < rows {
         return true;
     }
-    backwarding.len() < rows
+    tables.backwarding.len() < rows
 }

@@ -11,5 +11,6 @@ mod lent;
 mod row;
 
 pub use build::build_tables;
-pub use key::{KeyLinks, key_links};
-pub use row::{row_check, row_of};
+pub use key::key_links;
+pub use lent::Tables;
+pub use row::{check_row, row_of};

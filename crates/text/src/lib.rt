@@ -5,15 +5,19 @@
 
 ghost use Rattle.std.specs.Prelude.{◌≡◌, ◌<◌, ◌≤◌, true, false, IfOk, OnOk, OnErr, decimal, length, take};
 ghost use Rattle.std.specs.Io.KnownBytes.{Appends, Consumes, IsAtEnd, Keeps};
+ghost use Rattle.net.specs.Lent.{rows_lent};
+ghost use Rattle.net.specs.Told.{told};
 ghost use Rattle.text.specs.Bytes.{shifted_by, number_of};
+ghost use Rattle.text.specs.Batch.{rows_of};
 ghost use Rattle.text.specs.Taken.{TakesSome, TakesFewer};
-ghost use Rattle.text.specs.Written.{number_at_place, hex_of};
+ghost use Rattle.text.specs.Written.{number_at_place, refused_text, hex_of};
 
+mod records;
+
+use net::{LentRows, PlacedRefusal};
+pub use records::{RECORDS, Record, answer_records, read_head};
 use std::io;
 use std::io::{ErrorKind, Read, Write};
-
-// Of a batch (compare/FORMAT.md): at most so many records are answered, so that a run ends on any input.
-pub const RECORDS: usize = 1000000;
 
 // What a lent room, table or trace holds before it is lent.
 pub const UNTOUCHED: u8 = 238;
@@ -38,11 +42,30 @@ pub fn decimal<W: Write>(out: &mut W, n: usize) -> io::Result<()>
     write!(out, "{n}")
 }
 
-// Writes a refusal number and its place, as `3 at 0`.
+// Writes a refusal number and its place, as `3 at 0`. The two come apart, since `0 at 0` is written too, where nothing is refused.
 pub fn number_and_place<W: Write>(out: &mut W, number: u8, place: usize) -> io::Result<()>
     ensures { OnOk result (Appends (W.contents out.old) (W.contents out.new) (number_at_place number place)) }
 {
     write!(out, "{number} at {place}")
+}
+
+// Writes the number and place of an answer's refusal; `0 at 0` where nothing is refused.
+pub fn print_told<W: Write, T>(out: &mut W, answer: &Result<T, PlacedRefusal>) -> io::Result<()>
+    ensures { OnOk result (Appends (W.contents out.old) (W.contents out.new)
+        (number_at_place (told answer.now).number (told answer.now).place)) }
+{
+    match answer {
+        Ok(_) => number_and_place(out, 0, 0),
+        Err(refused) => number_and_place(out, refused.refusal.number(), refused.place),
+    }
+}
+
+// Writes a refusal, as `refused 3 at 0`.
+pub fn print_refused<W: Write>(out: &mut W, refused: PlacedRefusal) -> io::Result<()>
+    ensures { OnOk result (Appends (W.contents out.old) (W.contents out.new) (refused_text refused)) }
+{
+    write!(out, "refused ")?;
+    number_and_place(out, refused.refusal.number(), refused.place)
 }
 
 // Writes each byte as two hexadecimal digits in lower case.
@@ -109,7 +132,7 @@ pub fn read_front<R: Read>(input: &mut R, bytes: &mut [u8]) -> io::Result<usize>
     Ok(done)
 }
 
-// Fills the bytes from the input: false where the input ends before.
+// Fills the bytes from the input: false where the input ends before. A bool, as no value stands beside it (clauses `filled`, `cut`, `fewer`).
 pub fn read<R: Read>(input: &mut R, bytes: &mut [u8]) -> io::Result<bool>
     ensures filled { IfOk result (λ whole. whole ≡ true → Consumes (R.remaining input.old) (R.remaining input.new) bytes.new) }
     ensures cut { IfOk result (λ whole. whole ≡ false → IsAtEnd (R.remaining input.new)) }
@@ -126,27 +149,7 @@ pub fn read_number<R: Read>(input: &mut R, width: usize) -> io::Result<usize> {
     Ok(number_of(&bytes) as usize)
 }
 
-// A record of a batch as its head tells it (compare/FORMAT.md): its kind and the length of its fields, which come next.
-#[derive(Clone, Copy)]
-pub struct Record {
-    pub kind: u8,
-    pub length: usize,
-}
-
-// Reads the head of the next record: none where the input has ended.
-pub fn read_head<R: Read>(input: &mut R) -> io::Result<Option<Record>> {
-    let mut kind = [0u8; 1];
-    if !read(input, &mut kind)? {
-        return Ok(None);
-    }
-    let length = read_number(input, 4)?;
-    Ok(Some(Record {
-        kind: kind[0],
-        length,
-    }))
-}
-
-// Fills the first n weights, 4 bytes each, low byte first: false where the input ends before, or there are fewer.
+// Fills the first n weights, 4 bytes each, low byte first: false, as of `read`, where the input ends before, or there are fewer.
 pub fn read_weights<R: Read>(input: &mut R, weights: &mut [u32], n: usize) -> io::Result<bool> {
     let enough = n <= weights.len();
     for weight in weights.iter_mut().take(n) {
@@ -160,7 +163,7 @@ pub fn read_weights<R: Read>(input: &mut R, weights: &mut [u32], n: usize) -> io
 }
 
 // A network in memory as a batch has it, its rows of any length. The programs have no heap, so each row is an array that has room for the
-// longest, and its length; `low`, `high` and `weight` lend the row alone.
+// longest, and its length.
 #[derive(Clone, Copy)]
 pub struct Rows {
     pub nodes: usize,
@@ -173,25 +176,16 @@ pub struct Rows {
 }
 
 impl Rows {
-    // The low ends of the links.
-    pub fn low(&self) -> &[u8]
-        ensures { result.now ≡ take self.now.lows self.now.low }
+    // The rows alone, as a network in memory is lent.
+    pub fn lent(&self) -> LentRows<'_>
+        ensures { rows_lent result ≡ rows_of self.now }
     {
-        front(&self.low, self.lows)
-    }
-
-    // The high ends.
-    pub fn high(&self) -> &[u8]
-        ensures { result.now ≡ take self.now.highs self.now.high }
-    {
-        front(&self.high, self.highs)
-    }
-
-    // The weights.
-    pub fn weight(&self) -> &[u32]
-        ensures { result.now ≡ take self.now.weights self.now.weight }
-    {
-        front(&self.weight, self.weights)
+        LentRows {
+            nodes: self.nodes,
+            low: front(&self.low, self.lows),
+            high: front(&self.high, self.highs),
+            weight: front(&self.weight, self.weights),
+        }
     }
 }
 

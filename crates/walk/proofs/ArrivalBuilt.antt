@@ -25,7 +25,7 @@ use Rattle.graph.proofs.Arrival.{always_finds, dropped_at_failed_link}
 use Rattle.net.specs.Refusals.{accepted}
 use Rattle.net.specs.Rows.{Rows, network_of}
 use Rattle.net.specs.Failure.{fails}
-use Rattle.net.specs.declared.check.Verdict.{Verdict}
+use Rattle.net.specs.Verdict.{Verdict}
 use Rattle.net.specs.declared.failure.Failure.{Failure}
 use Rattle.net.specs.declared.interface.Interface.{Interface}
 use Rattle.net.proofs.Accepted.{well_formed}
@@ -34,14 +34,13 @@ use Rattle.net.proofs.Verdicts.{number_second}
 use Rattle.tables.specs.Lent.{LentTables}
 use Rattle.tables.specs.Build.{BuildAnswer}
 use Rattle.walk.specs.Lent.{hop_at, tables_for}
+use Rattle.walk.specs.Step.{Stepped, Refused, Delivered, NothingToFollow, Dropped, Next}
 use Rattle.walk.specs.Step.{bad_interface, bad_start, step_number, told, decides, entry_read, step_at, step_of, step_answer}
 use Rattle.walk.specs.Walk.{ending_number, course_under, walked_by, walk_answer}
 use Rattle.walk.specs.Demand3.{AtMostOne}
 use Rattle.walk.specs.Arrival.{FindsEntry, AlwaysFindsEntry, DroppedAtFailedLink}
 use Rattle.walk.specs.declared.question.Question.{Question}
 use Rattle.walk.specs.declared.steps.Asked.TheVariants.{Arrival}
-use Rattle.walk.specs.declared.steps.Stepped.{Stepped}
-use Rattle.walk.specs.declared.steps.Stepped.TheVariants.{Refused, Delivered, NothingToFollow, Dropped, Next}
 use Rattle.walk.proofs.Verdicts.{lent_accepted, step_taken}
 use Rattle.walk.proofs.Stepping.{step_lost}
 use Rattle.walk.proofs.Built.{built_accepted, built_entries}

@@ -12,7 +12,7 @@ use native.Mathlib.Omega.{arith}
 use lib.ListN.{length, get_or, take, drop, length-drop}
 use lib.Seq.{get_or-take, get_or-drop, length-take-le}
 use Rattle.net.specs.Choice.{both}
-use Rattle.net.specs.Rows.{tail_of, head_of}
+use Rattle.net.specs.Rows.{Rows, tail_of, head_of}
 use Rattle.tables.specs.Lent.{LentTables}
 use Rattle.walk.specs.Lent.{all_below, byte_passes, table_passes, tables_pass}
 use Rattle.walk.specs.inner.Reading.{row_passes, Checking, CheckingAll}
@@ -54,9 +54,8 @@ abbrev pub row_test : ℕ → List ℕ → List ℕ → (ℕ → ℕ) → List �
 row_test n low high deciding table row = row_passes low high (deciding row) (take n (drop (row * n) table))
 
 -- the rows below a number have passed
-pub record RowsPassed (n : ℕ) (low high : List ℕ) (deciding : ℕ → ℕ) (table : List ℕ) (rows row : ℕ) : Type 0 where
-  pub within : row ≤ rows
-  pub so_far : all_below row (row_test n low high deciding table) ≡ true
+abbrev pub RowsPassed : ℕ → List ℕ → List ℕ → (ℕ → ℕ) → List ℕ → ℕ → Type 0
+RowsPassed n low high deciding table row = all_below row (row_test n low high deciding table) ≡ true
 
 all_same : (count : ℕ) (one other : ℕ → Bool) → ((k : ℕ) → k < count → one k ≡ other k) → all_below count one ≡ all_below count other
 unfolding all_below
@@ -89,32 +88,33 @@ module _ (low high : List ℕ) where
         sym (rw (same, size) at e)
 
     -- the rows passed: none yet, one row more, the first that fails, and all
-    pub no_rows : (rows : ℕ) → RowsPassed n low high deciding table rows 0
-    no_rows rows = record { within = omega arith; so_far = below_none _ }
+    pub no_rows : RowsPassed n low high deciding table 0
+    no_rows = below_none _
 
     module _ (row i : ℕ) {answer : Bool} (decides : i ≡ deciding row)
         (told : answer ≡ row_passes low high i (take (row * n + n - row * n) (drop (row * n) table))) (rows : ℕ) (h : row < rows) where
-      pub row_more : answer ≡ true → RowsPassed n low high deciding table rows row → RowsPassed n low high deciding table rows (row + 1)
-      row_more e passed =
-          record { within = omega arith; so_far = below_one_more _ row passed.so_far (row_as_part row i decides told ∙ e) }
+      pub row_more : answer ≡ true → RowsPassed n low high deciding table row → RowsPassed n low high deciding table (row + 1)
+      row_more e passed = below_one_more _ row passed (row_as_part row i decides told ∙ e)
 
       pub row_fails : answer ≡ false → rows * n ≤ length table → false ≡ table_passes n low high rows deciding table
       row_fails e long = sym (table_is rows long ∙ below_fails _ rows row h (row_as_part row i decides told ∙ e))
 
-    pub all_rows : (rows row : ℕ) → rows ≤ row → RowsPassed n low high deciding table rows row → rows * n ≤ length table
+    pub all_rows : (rows row : ℕ) → row ≤ rows → rows ≤ row → RowsPassed n low high deciding table row → rows * n ≤ length table
         → true ≡ table_passes n low high rows deciding table
-    all_rows rows row end passed long = sym (table_is rows long ∙ below_all _ rows row passed.within end passed.so_far)
+    all_rows rows row within end passed long = sym (table_is rows long ∙ below_all _ rows row within end passed)
 
 -- the three tables: what is known where each is checked, and what the answers come to in the order of the code
-module _ (n : ℕ) (low high : List ℕ) (T : LentTables) where
-  module _ (all : CheckingAll n low high T) where
-    pub routes_ready : Checking n low high n T.routing
+module _ (R : Rows) (T : LentTables) where
+  open R use {nodes as n, low, high}
+
+  module _ (all : CheckingAll R T) where
+    pub routes_ready : Checking R n T.routing
     routes_ready = record { paired = all.paired; room = all.long.for_routing }
 
-    pub forwards_ready : Checking n low high (2 * length low) T.forwarding
+    pub forwards_ready : Checking R (2 * length low) T.forwarding
     forwards_ready = record { paired = all.paired; room = all.long.for_forwarding }
 
-    pub backwards_ready : Checking n low high (2 * length low) T.backwarding
+    pub backwards_ready : Checking R (2 * length low) T.backwarding
     backwards_ready = record { paired = all.paired; room = all.long.for_backwarding }
 
   module _ {routes : Bool} (routes_told : routes ≡ table_passes n low high n (λ i. i) T.routing) where

@@ -19,21 +19,18 @@ use Rattle.net.specs.declared.interface.Node.{Node}
 use Rattle.net.proofs.Overwrite.{over_none, over_first}
 use Rattle.tables.specs.Lent.{LentTables}
 use Rattle.walk.specs.Lent.{hop_at}
-use Rattle.walk.specs.Walk.{ending_number}
-use Rattle.walk.specs.inner.Ground.{Ground, rows_on, tables_on}
+use Rattle.walk.specs.Walk.{ending_named}
+use Rattle.walk.specs.inner.Reading.{Ready}
 use Rattle.walk.specs.inner.Moves.{lost_ending, moved_on, course_from, course_around, Standing, Went, WentFrom}
 use Rattle.walk.specs.declared.question.Question.{Question}
 use Rattle.walk.specs.declared.moves.Packet.{Packet}
-use Rattle.walk.specs.declared.moves.Outcome.{Outcome}
+use Rattle.walk.specs.declared.walked.Walked.{Walked}
+use Rattle.walk.specs.declared.walked.Ending.{Ending as EndingSaid}
 use Rattle.walk.proofs.Grounds.{forwarding_read, backwarding_read}
 
-module _ {n : ℕ} {low high forwarding backwarding : List ℕ} (on : Ground n low high forwarding backwarding) (question : Question)
-    (packet : Packet) where
-  abbrev R : Rows
-  R = rows_on on
-
-  abbrev T : LentTables
-  T = tables_on on
+module _ {R : Rows} {T : LentTables} (ready : Ready R T) (question : Question) (packet : Packet) where
+  open R use {nodes as n, low, high}
+  open T use {forwarding, backwarding}
 
   abbrev N : Network
   N = network_of R
@@ -76,34 +73,34 @@ module _ {n : ℕ} {low high forwarding backwarding : List ℕ} (on : Ground n l
         course_on v enters up =
             rw leads
             (walk_on_lem N _ _ d i away packet.left some _ f up
-            ∙ rw (forwarding_read on d f v.0 (sym enters), enters))
+            ∙ rw (forwarding_read ready d f v.0 (sym enters), enters))
 
   module _ (f : ℕ) (leaves : tail N f ≡ i) where
     pub turned_lost : Leadless (hop_at low high i (get_or backwarding (f * n + d) 0)) → course_around R T question packet f ≡ ends_by dropped
     unfolding course_around
-    turned_lost l = rw (backwarding_read on d f i leaves) (around_lost N _ _ d i (packet.left - 1) _ l)
+    turned_lost l = rw (backwarding_read ready d f i leaves) (around_lost N _ _ d i (packet.left - 1) _ l)
 
     module _ (g : ℕ) (leads : hop_at low high i (get_or backwarding (f * n + d) 0) ≡ onward g) where
       pub turned_drops : fails question.failure (link g) ≡ true → course_around R T question packet f ≡ ends_by dropped
       unfolding course_around
-      turned_drops down = rw (backwarding_read on d f i leaves, leads) (around_drops N _ _ d i (packet.left - 1) g down)
+      turned_drops down = rw (backwarding_read ready d f i leaves, leads) (around_drops N _ _ d i (packet.left - 1) g down)
 
       pub turned_on : (v : Node) → v.0 ≡ head N g → fails question.failure (link g) ≡ false
           → course_around R T question packet f ≡ crossing g (course_from R T question (beyond v g))
       unfolding course_around course_from moved_on lost_ending
       turned_on v enters up =
-          rw (backwarding_read on d f i leaves, leads)
-          (around_on N _ _ d i (packet.left - 1) g up ∙ rw (forwarding_read on d g v.0 (sym enters), enters))
+          rw (backwarding_read ready d f i leaves, leads)
+          (around_on N _ _ d i (packet.left - 1) g up ∙ rw (forwarding_read ready d g v.0 (sym enters), enters))
 
 -- a walk that ends here; one that goes on over a link
 module _ (N : Network) {course : Course} (hops : ℕ) (trace : List ℕ) where
-  pub went_ends : (e : Ending) (number : ℕ) → number ≡ ending_number e → course ≡ ends_by e
-      → Went N course hops trace (record { ending = number; hops = hops }) trace
+  pub went_ends : (e : Ending) (said : EndingSaid) → ending_named said ≡ e → course ≡ ends_by e
+      → Went N course hops trace (record { ending = said; hops = hops }) trace
   unfolding ends_by
-  went_ends e number told is =
+  went_ends e said told is =
       rw is (record { ending = told; hops_more = omega arith; trace = sym (over_none trace (hops + 1)) })
 
-  pub went_on : {rest : Course} {r : Outcome} {after : List ℕ} (f v : ℕ) → v ≡ head N f → course ≡ crossing f rest
+  pub went_on : {rest : Course} {r : Walked} {after : List ℕ} (f v : ℕ) → v ≡ head N f → course ≡ crossing f rest
       → hops + 1 < length trace → Went N rest (hops + 1) (set trace (hops + 1) v) r after → Went N course hops trace r after
   unfolding crossing
   went_on f v enters is room went =
@@ -115,39 +112,38 @@ module _ (N : Network) {course : Course} (hops : ℕ) (trace : List ℕ) where
       })
 
 -- a move that makes the same course as another
-pub went_same : (N : Network) {course other : Course} (hops : ℕ) (trace : List ℕ) {r : Outcome} {after : List ℕ} → course ≡ other
+pub went_same : (N : Network) {course other : Course} (hops : ℕ) (trace : List ℕ) {r : Walked} {after : List ℕ} → course ≡ other
     → Went N other hops trace r after → Went N course hops trace r after
 went_same N hops trace same went = rw same went
 
 -- a move that crosses interface f and hands the packet on
-module _ {n : ℕ} {low high forwarding backwarding : List ℕ} (on : Ground n low high forwarding backwarding) (question : Question)
-    (packet next : Packet) (v : Node) (f : ℕ) where
-  pub went_over : {whole : Course} {trace after : List ℕ} {r : Outcome}
-      → whole ≡ crossing f (course_from (rows_on on) (tables_on on) question (beyond on question packet v f))
-      → next ≡ beyond on question packet v f → v.0 ≡ head (network_of (rows_on on)) f → packet.hops + 1 < length trace
-      → Went (network_of (rows_on on)) (course_from (rows_on on) (tables_on on) question next) next.hops
+module _ {R : Rows} {T : LentTables} (ready : Ready R T) (question : Question) (packet next : Packet) (v : Node) (f : ℕ) where
+  pub went_over : {whole : Course} {trace after : List ℕ} {r : Walked}
+      → whole ≡ crossing f (course_from R T question (beyond ready question packet v f))
+      → next ≡ beyond ready question packet v f → v.0 ≡ head (network_of R) f → packet.hops + 1 < length trace
+      → Went (network_of R) (course_from R T question next) next.hops
       (set trace (packet.hops + 1) v.0) r after
-      → Went (network_of (rows_on on)) whole packet.hops trace r after
+      → Went (network_of R) whole packet.hops trace r after
   unfolding moved_on
   went_over {whole} {trace} {after} {r} is moved enters room went =
-      let N = network_of (rows_on on) in
+      let N = network_of R in
       let stored = set trace (packet.hops + 1) v.0 in
       went_on N packet.hops trace f v.0 enters is room
-      (subst (λ (p : Packet). Went N (course_from (rows_on on) (tables_on on) question p) p.hops stored r after) moved went)
+      (subst (λ (p : Packet). Went N (course_from R T question p) p.hops stored r after) moved went)
 
 -- A packet that has gone from where `packet` stood along working links to where `here` stands: what is known there, and that the rest of
--- the walk is the whole, in every network and tables that the lent things belong to.
-pub record Along (n : ℕ) (low high forwarding backwarding : List ℕ) (question : Question) (packet : Packet) (before : List ℕ)
-    (here : Packet) (now : List ℕ) : Type 0 where
-  pub standing : Standing n low high forwarding backwarding question here now
+-- the walk is the whole.
+pub record Along (R : Rows) (T : LentTables) (question : Question) (packet : Packet) (before : List ℕ) (here : Packet)
+    (now : List ℕ) : Type 0 where
+  pub standing : Standing R T question here now
   pub same_length : length now ≡ length before
   pub fewer : here.left ≤ packet.left
-  pub whole : (on : Ground n low high forwarding backwarding) (r : Outcome) (after : List ℕ)
-      → Went (network_of (rows_on on)) (course_from (rows_on on) (tables_on on) question here) here.hops now r after
-      → Went (network_of (rows_on on)) (course_from (rows_on on) (tables_on on) question packet) packet.hops before r after
+  pub whole : (r : Walked) (after : List ℕ)
+      → Went (network_of R) (course_from R T question here) here.hops now r after
+      → Went (network_of R) (course_from R T question packet) packet.hops before r after
 
 -- a whole walk from its source
-pub went_from : (N : Network) {course : Course} {r : Outcome} {after : List ℕ} (s : ℕ) (trace : List ℕ)
+pub went_from : (N : Network) {course : Course} {r : Walked} {after : List ℕ} (s : ℕ) (trace : List ℕ)
     → 0 < length trace → Went N course 0 (set trace 0 s) r after → WentFrom N s course trace r after
 unfolding visits
 went_from N s trace room went =

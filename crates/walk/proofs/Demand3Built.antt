@@ -21,7 +21,7 @@ use Rattle.net.specs.Refusals.{accepted, table_length}
 use Rattle.net.specs.Rows.{Rows, network_of}
 use Rattle.net.specs.Check.{verdict, Accepted}
 use Rattle.net.specs.Failure.{fails, failure_number}
-use Rattle.net.specs.declared.check.Verdict.{Verdict}
+use Rattle.net.specs.Verdict.{Verdict}
 use Rattle.net.specs.declared.failure.Failure.{Failure}
 use Rattle.net.specs.declared.failure.Failure.TheVariants.{Nothing as NoFailure, One}
 use Rattle.net.proofs.Accepted.{check_accepts, well_formed}
@@ -30,10 +30,9 @@ use Rattle.tables.specs.Lent.{LentTables, LongEnough}
 use Rattle.tables.specs.Build.{build_verdict, Built, BuildAnswer}
 use Rattle.tables.proofs.Lengths.{tables_long}
 use Rattle.walk.specs.Lent.{tables_for}
-use Rattle.walk.specs.Walk.{ending_number, walk_number, walk_verdict, course_of, walked_by, walk_answer, trace_after}
+use Rattle.walk.specs.Walk.{Walked, ending_number, walk_number, walk_verdict, course_of, walked_by, walk_answer, trace_after}
 use Rattle.walk.specs.Demand3.{AtMostOne, Demand3}
 use Rattle.walk.specs.declared.question.Question.{Question}
-use Rattle.walk.specs.declared.walks.Walked.{Walked}
 use Rattle.walk.proofs.Verdicts.{number_of, lent_accepted, walk_trace_taken}
 use Rattle.walk.proofs.Built.{built_accepted, built_entries}
 

@@ -1,9 +1,9 @@
 -- Where a packet stands: what the look-up's answer tells there. An answer that leads on names an interface of the network that leaves the
 -- node and enters the answer's node; it has its row in both tables; and the bytes read in them are the entries of the lent tables.
+use Rattle.std.specs.Prelude.{Option, Some, None}
 use Prim.Native.Nat.{ℕ, ◌+◌, ◌*◌, ◌^◌, ◌<◌, ◌≤◌}
 use mathlib.Core.Path.{◌≡◌, sym, ◌∙◌}
 use mathlib.Core.Logic.{◌≢◌}
-use mathlib.Core.List.{List}
 use native.Mathlib.Omega.{arith}
 use lib.ListN.{length, get_or}
 use mir.Syntax.{w8, w64}
@@ -13,15 +13,13 @@ use Rattle.graph.specs.Entries.{onward}
 use Rattle.graph.specs.Walk.{Tables}
 use Rattle.graph.proofs.Moves.{Leadless}
 use Rattle.net.specs.Limits.{most_nodes}
-use Rattle.net.specs.Rows.{network_of}
+use Rattle.net.specs.Rows.{Rows, network_of}
 use Rattle.net.specs.declared.interface.Interface.{Interface}
 use Rattle.net.specs.declared.interface.Node.{Node}
 use Rattle.net.proofs.Rows.{head_of_lem}
+use Rattle.tables.specs.Lent.{LentTables}
 use Rattle.walk.specs.Lent.{hop_at, tables_for}
-use Rattle.walk.specs.inner.Reading.{found_by, Paired}
-use Rattle.walk.specs.inner.Ground.{Ground, rows_on, tables_on}
-use Rattle.walk.specs.declared.lent.Found.{Found}
-use Rattle.walk.specs.declared.lent.Found.TheVariants.{Next, Absent}
+use Rattle.walk.specs.inner.Reading.{found_by, Paired, Ready}
 use Rattle.walk.proofs.Below.{row_within}
 use Rattle.walk.proofs.Hops.{hop_below, hop_leaves, next_onward, next_node, absent_leadless, head_below, paired}
 
@@ -38,30 +36,33 @@ place_fits f n d room h within most = record { fits = omega arith }
 pub place_within : (f n d room : ℕ) → f * n + n ≤ room → d < n → f * n + d < room
 place_within f n d room h within = omega arith
 
-module _ {n : ℕ} {low high forwarding backwarding : List ℕ} (on : Ground n low high forwarding backwarding) where
+module _ {R : Rows} {T : LentTables} (ready : Ready R T) where
+  open R use {nodes as n, low, high}
+  open T use {forwarding, backwarding}
+
   abbrev N : Network
-  N = network_of (rows_on on)
+  N = network_of R
 
   abbrev entries : ℕ → Tables
-  entries d = tables_for (rows_on on) (tables_on on) d
+  entries d = tables_for R T d
 
   pub few_nodes : n ≤ most_nodes
-  few_nodes = on.ready.network.few_nodes
+  few_nodes = ready.network.few_nodes
 
   -- the look-up may be asked
   pub look_up_at : Paired low high
-  look_up_at = paired (rows_on on) on.ready.network
+  look_up_at = paired R ready.network
 
   -- an interface has its row in both tables, and enters a node
   module _ (f : ℕ) (below : f < 2 * length low) where
     pub forwarding_row : f * n + n ≤ length forwarding
-    forwarding_row = row_within n (2 * length low) f (length forwarding) below on.ready.long.for_forwarding
+    forwarding_row = row_within n (2 * length low) f (length forwarding) below ready.long.for_forwarding
 
     pub backwarding_row : f * n + n ≤ length backwarding
-    backwarding_row = row_within n (2 * length low) f (length backwarding) below on.ready.long.for_backwarding
+    backwarding_row = row_within n (2 * length low) f (length backwarding) below ready.long.for_backwarding
 
     pub enters_node : head N f < n
-    enters_node = head_below (rows_on on) on.ready.network f below
+    enters_node = head_below R ready.network f below
 
   -- the entries for d, read as bytes
   module _ (d f i : ℕ) where
@@ -83,26 +84,26 @@ module _ {n : ℕ} {low high forwarding backwarding : List ℕ} (on : Ground n l
     pub row : f.0 * n + n ≤ length forwarding
 
   -- the look-up of a byte at node i answered r
-  module _ (i byte : ℕ) {r : Found} (answered : r ≡ found_by low high (hop_at low high i byte)) where
-    pub absent : r ≡ Absent → Leadless (hop_at low high i byte)
+  module _ (i byte : ℕ) {r : Option (Node × Interface)} (answered : r ≡ found_by low high (hop_at low high i byte)) where
+    pub absent : r ≡ None → Leadless (hop_at low high i byte)
     absent e = absent_leadless low high (hop_at low high i byte) (sym e ∙ answered)
 
-    pub leads : (v : Node) (f : Interface) → r ≡ Next v f → Leads i byte v f
+    pub leads : (v : Node) (f : Interface) → r ≡ Some (v, f) → Leads i byte v f
     leads v f next =
         let entry = next_onward low high (hop_at low high i byte) (sym next ∙ answered) in
-        let below = hop_below (rows_on on) i byte entry in
-        let enters = next_node low high (hop_at low high i byte) (sym next ∙ answered) ∙ sym (head_of_lem (rows_on on) f.0) in
+        let below = hop_below R i byte entry in
+        let enters = next_node low high (hop_at low high i byte) (sym next ∙ answered) ∙ sym (head_of_lem R f.0) in
         record {
           entry = entry;
           below = below;
-          leaves = hop_leaves (rows_on on) i byte entry;
+          leaves = hop_leaves R i byte entry;
           enters = enters;
           node = omega (arith, enters, enters_node f.0 below);
           row = forwarding_row f.0 below;
         }
 
     -- where it leads on: the next node can be stored as a byte, and the entry that stands there is in the forwarding table
-    module _ {v : Node} {f : Interface} (next : r ≡ Next v f) where
+    module _ {v : Node} {f : Interface} (next : r ≡ Some (v, f)) where
       pub next_node_below : v.0 < n
       next_node_below = (leads v f next).node
 

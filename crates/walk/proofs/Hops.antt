@@ -1,6 +1,7 @@
 -- What a byte says at a node. The interface that it names is one of the network, leaves that node, and has the byte as its link
 -- (hop_below, hop_leaves, hop_link); and the link of an interface, read at the node that it leaves, names that interface (hop_is): the
 -- other one of the link leaves its other end. The code asks the same questions in the same order, but for 254 and 255, which are no links.
+use Rattle.std.specs.Prelude.{Option, Some, None, is_some}
 use Prim.Native.Nat.{ℕ, ◌+◌, ◌*◌, ◌≤◌, ◌<◌}
 use mathlib.Core.Bool.{Bool, true, false}
 use mathlib.Core.Path.{◌≡◌, refl, sym, ap, ◌∙◌}
@@ -26,8 +27,6 @@ use Rattle.net.proofs.Accepted.{well_formed}
 use Rattle.net.proofs.Rows.{present_row, interface_present, head_of_lem}
 use Rattle.walk.specs.Lent.{leaving, hop_at, leads_on, byte_passes}
 use Rattle.walk.specs.inner.Reading.{found_by, Paired}
-use Rattle.walk.specs.declared.lent.Found.{Found}
-use Rattle.walk.specs.declared.lent.Found.TheVariants.{Next, Absent}
 
 -- how a link may leave a node, with what was found of its ends
 data Leaves (low high : List ℕ) (i k : ℕ) : Hop → Type 0 where
@@ -158,7 +157,7 @@ module _ (low high : List ℕ) (i k : ℕ) where
   enters_low : head_of low high (2 * k + 1) ≡ get_or low k 0
   enters_low = sym (head_of_lem rows (2 * k + 1)) ∙ head_from_high k (network_of rows)
 
-  pub found_no_link : length low ≤ k → Absent ≡ found_by low high (hop_at low high i k)
+  pub found_no_link : length low ≤ k → None ≡ found_by low high (hop_at low high i k)
   unfolding hop_at found_by leaving
   found_no_link over =
       elim (ℕ_discrete k here_byte) [
@@ -173,42 +172,42 @@ module _ (low high : List ℕ) (i k : ℕ) where
     by_link : found_by low high (hop_at low high i k) ≡ found_by low high (leaving low high i k)
     by_link = ap (found_by low high) (link_byte low high i k pair within)
 
-    pub found_from_low : get_or low k 0 ≡ i → Next (record { 0 = get_or high k 0 }) (record { 0 = 2 * k }) ≡ found_by low high (hop_at low high i k)
+    pub found_from_low : get_or low k 0 ≡ i → Some (record { 0 = get_or high k 0 }, record { 0 = 2 * k }) ≡ found_by low high (hop_at low high i k)
     unfolding found_by leaving
     found_from_low at_low = sym (by_link ∙ simp (lt-leb (length low) k within, eq-eqb (get_or low k 0) i at_low, enters_high))
 
     module _ (not_low : get_or low k 0 ≢ i) where
       pub found_from_high : get_or high k 0 ≡ i
-          → Next (record { 0 = get_or low k 0 }) (record { 0 = 2 * k + 1 }) ≡ found_by low high (hop_at low high i k)
+          → Some (record { 0 = get_or low k 0 }, record { 0 = 2 * k + 1 }) ≡ found_by low high (hop_at low high i k)
       unfolding found_by leaving
       found_from_high at_high =
           sym (by_link ∙ simp (lt-leb (length low) k within, ne_eqb (get_or low k 0) i not_low, eq-eqb (get_or high k 0) i at_high, enters_low))
 
-      pub found_apart : get_or high k 0 ≢ i → Absent ≡ found_by low high (hop_at low high i k)
+      pub found_apart : get_or high k 0 ≢ i → None ≡ found_by low high (hop_at low high i k)
       unfolding found_by leaving
       found_apart not_high =
           sym (by_link ∙ simp (lt-leb (length low) k within, ne_eqb (get_or low k 0) i not_low, ne_eqb (get_or high k 0) i not_high))
 
+-- two answers that find something and are one find one thing
+pub found_one : {x y : Node × Interface} → Some x ≡ Some y → x ≡ y
+found_one e = cc
+
 -- what an answer tells of the entry
 module _ (low high : List ℕ) where
-  pub next_onward : (h : Hop) {v : Node} {f : Interface} → Next v f ≡ found_by low high h → h ≡ onward f.0
+  pub next_onward : (h : Hop) {v : Node} {f : Interface} → Some (v, f) ≡ found_by low high h → h ≡ onward f.0
   unfolding found_by
   next_onward here e = absurd (let z : ◌≡◌ {A = ℕ} 0 1 = cc in omega arith)
   next_onward nowhere e = absurd (let z : ◌≡◌ {A = ℕ} 0 1 = cc in omega arith)
-  next_onward (onward g) {f = f} e =
-      let same : f ≡ record { 0 = g } = cc in
-      rw same
+  next_onward (onward g) {v} {f} e = ap (λ (found : Node × Interface). onward found.1.0) (sym (found_one e))
 
-  pub next_node : (h : Hop) {v : Node} {f : Interface} → Next v f ≡ found_by low high h → v.0 ≡ head_of low high f.0
+  pub next_node : (h : Hop) {v : Node} {f : Interface} → Some (v, f) ≡ found_by low high h → v.0 ≡ head_of low high f.0
   unfolding found_by
   next_node here e = absurd (let z : ◌≡◌ {A = ℕ} 0 1 = cc in omega arith)
   next_node nowhere e = absurd (let z : ◌≡◌ {A = ℕ} 0 1 = cc in omega arith)
   next_node (onward g) {v} {f} e =
-      let same : f ≡ record { 0 = g } = cc in
-      let there : v ≡ record { 0 = head_of low high g } = cc in
-      rw (same, there)
+      ap (λ (found : Node × Interface). found.0.0) (found_one e) ∙ sym (ap (λ (found : Node × Interface). head_of low high found.1.0) (found_one e))
 
-  pub absent_leadless : (h : Hop) → Absent ≡ found_by low high h → Leadless h
+  pub absent_leadless : (h : Hop) → None ≡ found_by low high h → Leadless h
   unfolding found_by
   absent_leadless here e = at_destination
   absent_leadless nowhere e = without_path
@@ -225,19 +224,16 @@ module _ (low high : List ℕ) (i d byte : ℕ) where
     unfolding byte_passes
     nowhere_passes e = simp (ne_eqb d i other, eq-eqb byte nowhere_byte e)
 
-    module _ (named : byte ≢ nowhere_byte) {answer : Found} (told : answer ≡ found_by low high (hop_at low high i byte)) where
+    module _ (named : byte ≢ nowhere_byte) {answer : Option (Node × Interface)} (told : answer ≡ found_by low high (hop_at low high i byte)) where
       by_hop : byte_passes low high i d byte ≡ leads_on (hop_at low high i byte)
       unfolding byte_passes
       by_hop = simp (ne_eqb d i other, ne_eqb byte nowhere_byte named)
 
-      pub absent_fails : answer ≡ Absent → false ≡ byte_passes low high i d byte
-      unfolding leads_on
-      absent_fails e = sym (by_hop ∙ go (absent_leadless low high _ (sym e ∙ told)))
+      pub found_passes : {some : Bool} → some ≡ is_some answer → some ≡ byte_passes low high i d byte
+      unfolding leads_on found_by
+      found_passes e = e ∙ ap is_some told ∙ go (hop_at low high i byte) ∙ sym by_hop
         where
-          go : {h : Hop} → Leadless h → leads_on h ≡ false
-          go at_destination = refl
-          go without_path = refl
-
-      pub next_passes : {v : Node} {f : Interface} → answer ≡ Next v f → true ≡ byte_passes low high i d byte
-      unfolding leads_on
-      next_passes e = sym (by_hop ∙ ap leads_on (next_onward low high _ (sym e ∙ told)))
+          go : (h : Hop) → is_some (found_by low high h) ≡ leads_on h
+          go here = refl
+          go nowhere = refl
+          go (onward f) = refl

@@ -5,7 +5,9 @@ pub mod Verdicts
 pub mod Asking
 pub mod Grounds
 pub mod Courses
+pub mod Unblocked
 pub mod Stepping
+pub mod Told
 pub mod Built
 pub mod Demand3Built
 pub mod ArrivalBuilt

@@ -3,7 +3,6 @@ use Prim.Native.Nat.{ℕ, ◌+◌, ◌*◌}
 use mathlib.Core.Bool.{true, false}
 use mathlib.Core.Path.{◌≡◌}
 use mathlib.Core.Logic.{◌≢◌}
-use mathlib.Core.List.{List}
 use borrow.Author.Tests.{eq-eqb, ne_eqb}
 use lib.ListN.{get_or}
 use Rattle.graph.specs.Network.{link, tail, head}
@@ -15,13 +14,12 @@ use Rattle.net.specs.declared.interface.Interface.{Interface}
 use Rattle.net.specs.declared.interface.Node.{Node}
 use Rattle.tables.specs.Lent.{LentTables}
 use Rattle.walk.specs.Lent.{hop_at, tables_for}
-use Rattle.walk.specs.Step.{decides, entry_read, told, step_at, step_of}
-use Rattle.walk.specs.inner.Ground.{Ground, rows_on, tables_on}
+use Rattle.walk.specs.Step.{Delivered, NothingToFollow, Dropped, Next, decides, entry_read, told, step_at, step_of}
+use Rattle.walk.specs.inner.Reading.{Ready}
 use Rattle.walk.specs.inner.Steps.{step_around}
 use Rattle.walk.specs.declared.question.Question.{Question}
 use Rattle.walk.specs.declared.steps.Asked.{Asked}
 use Rattle.walk.specs.declared.steps.Asked.TheVariants.{Start, Arrival}
-use Rattle.walk.specs.declared.steps.Stepped.TheVariants.{Delivered, NothingToFollow, Dropped, Next}
 use Rattle.walk.proofs.Grounds.{backwarding_read}
 
 -- away from the destination, with an entry that leads to no interface
@@ -34,12 +32,9 @@ step_lost R T question i away l =
       step_nothing (fails question.failure) (tables_for R T question.destination.0).backwarding l,
     )
 
-module _ {n : ℕ} {low high forwarding backwarding : List ℕ} (on : Ground n low high forwarding backwarding) (question : Question) (i : ℕ) where
-  abbrev R : Rows
-  R = rows_on on
-
-  abbrev T : LentTables
-  T = tables_on on
+module _ {R : Rows} {T : LentTables} (ready : Ready R T) (question : Question) (i : ℕ) where
+  open R use {nodes as n, low, high}
+  open T use {backwarding}
 
   abbrev d : ℕ
   d = question.destination.0
@@ -52,18 +47,18 @@ module _ {n : ℕ} {low high forwarding backwarding : List ℕ} (on : Ground n l
   module _ (f : ℕ) (leaves : tail (network_of R) f ≡ i) where
     pub around_absent : Leadless (hop_at low high i (get_or backwarding (f * n + d) 0)) → Dropped ≡ step_around R T question f
     unfolding step_around told
-    around_absent l = rw (backwarding_read on d f i leaves, around_nothing (fails question.failure) l)
+    around_absent l = rw (backwarding_read ready d f i leaves, around_nothing (fails question.failure) l)
 
     module _ (g : Interface) (leads : hop_at low high i (get_or backwarding (f * n + d) 0) ≡ onward g.0) where
       pub around_drops : fails question.failure (link g.0) ≡ true → Dropped ≡ step_around R T question f
       unfolding step_around told
-      around_drops down = rw (backwarding_read on d f i leaves, leads, around_failed (fails question.failure) g.0 down)
+      around_drops down = rw (backwarding_read ready d f i leaves, leads, around_failed (fails question.failure) g.0 down)
 
       pub around_crosses : (v : Node) → v.0 ≡ head (network_of R) g.0 → fails question.failure (link g.0) ≡ false
           → Next v g ≡ step_around R T question f
       unfolding step_around told
       around_crosses v enters up =
-          rw (backwarding_read on d f i leaves, leads, around_along (fails question.failure) g.0 up) (crossed v g enters)
+          rw (backwarding_read ready d f i leaves, leads, around_along (fails question.failure) g.0 up) (crossed v g enters)
 
   -- at the node, by the entry that is read there
   pub step_delivered : (entry : Hop) → i ≡ d → Delivered ≡ step_at R T question i entry

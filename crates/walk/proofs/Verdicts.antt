@@ -13,20 +13,19 @@ use lib.Dec.{leb}
 use Rattle.net.specs.Refusals.{accepted, table_length, table_entry, trace_length}
 use Rattle.net.specs.Rows.{Rows, network_of}
 use Rattle.net.specs.Check.{check_network, verdict, refused_if, Accepted}
-use Rattle.net.specs.declared.check.Verdict.{Verdict}
+use Rattle.net.specs.Verdict.{Verdict}
 use Rattle.net.proofs.Accepted.{check_accepts, accepts_check}
 use Rattle.net.proofs.Verdicts.{or_else_first, or_else_second, first_accepted, second_accepted, is_refused, not_refused, passed_test}
 use Rattle.net.proofs.Overwrite.{over_start}
 use Rattle.tables.specs.Lent.{LentTables, tables_short, LongEnough}
 use Rattle.tables.proofs.Lengths.{tables_long, long_tables}
 use Rattle.walk.specs.Lent.{tables_pass, tables_verdict, lent_verdict}
-use Rattle.walk.specs.Step.{step_number, step_of, step_answer}
-use Rattle.walk.specs.Walk.{walk_number, walk_verdict, course_of, walked_by, walk_answer, trace_after}
+use Rattle.walk.specs.Step.{Refused, step_number, step_of, step_answer}
+use Rattle.walk.specs.Walk.{ending_number, ending_named, walk_number, walk_verdict, course_of, walked_by, walk_answer, trace_after}
 use Rattle.walk.specs.inner.Moves.{WentFrom}
-use Rattle.walk.specs.declared.moves.Outcome.{Outcome}
+use Rattle.walk.specs.declared.walked.Walked.{Walked}
 use Rattle.walk.specs.declared.question.Question.{Question}
 use Rattle.walk.specs.declared.steps.Asked.{Asked}
-use Rattle.walk.specs.declared.steps.Stepped.TheVariants.{Refused}
 
 abbrev pub number_of : Verdict → ℕ
 number_of v = v.number
@@ -155,8 +154,9 @@ module _ (R : Rows) (T : LentTables) (s : ℕ) (question : Question) (limit : �
       walk_room = leb-false (length trace) limit (passed_test _ trace_length (λ z. omega arith) (second_accepted _ _ whole_walk))
 
       -- the two promises of `walk`, from what it made
-      module _ {r : Outcome} {after : List ℕ} (went : WentFrom (network_of R) s (course_of R T s question limit) trace r after) where
-        pub walk_made : record { number = accepted; place = 0; ending = r.ending; hops = r.hops } ≡ walk_answer R T s question limit trace
+      module _ {r : Walked} {after : List ℕ} (went : WentFrom (network_of R) s (course_of R T s question limit) trace r after) where
+        pub walk_made : record { number = accepted; place = 0; ending = ending_number (ending_named r.ending); hops = r.hops }
+            ≡ walk_answer R T s question limit trace
         unfolding walk_answer walked_by
         walk_made = rw (eq-eqb _ accepted whole_walk, went.ending, went.hops)
 

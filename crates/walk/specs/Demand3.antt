@@ -12,8 +12,7 @@ use Rattle.net.specs.Refusals.{accepted}
 use Rattle.net.specs.Failure.{fails}
 use Rattle.net.specs.declared.failure.Failure.{Failure}
 use Rattle.net.specs.declared.failure.Failure.TheVariants.{Nothing as NoFailure, One}
-use Rattle.walk.specs.Walk.{ending_number}
-use Rattle.walk.specs.declared.walks.Walked.{Walked}
+use Rattle.walk.specs.Walk.{ending_number, Walked}
 
 -- "at most one failed link": none, or one of the network's
 abbrev pub AtMostOne : ℕ → Failure → Type 0

@@ -8,7 +8,7 @@ use Rattle.net.specs.Refusals.{table_length, table_entry}
 use Rattle.net.specs.Rows.{Rows, network_of, tail_of, head_of}
 use Rattle.net.specs.Check.{check_network, verdict, or_else, refused_if}
 use Rattle.net.specs.Entry.{here_byte, nowhere_byte}
-use Rattle.net.specs.declared.check.Verdict.{Verdict}
+use Rattle.net.specs.Verdict.{Verdict}
 use Rattle.tables.specs.Lent.{LentTables, tables_short}
 
 -- "Interface 2k is link k entered from the low end towards the high end; interface 2k + 1 is the other direction": the one by which

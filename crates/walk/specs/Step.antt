@@ -1,5 +1,5 @@
 -- The step (document 01, "Steps and walks"), over the tables as they are lent.
-use Rattle.std.specs.Prelude.{ℕ, ◌*◌, Bool, false, length, eqb, leb}
+use Rattle.std.specs.Prelude.{ℕ, ◌*◌, Bool, false, length, eqb, leb, Result, Ok, Err}
 use Rattle.graph.specs.Network.{head}
 use Rattle.graph.specs.Entries.{Hop}
 use Rattle.graph.specs.Walk.{Tables, Step, crosses, nothing, drops, step_by}
@@ -8,13 +8,37 @@ use Rattle.net.specs.Refusals.{accepted, interface_number, node_number}
 use Rattle.net.specs.Rows.{Rows, network_of}
 use Rattle.net.specs.Check.{first_number}
 use Rattle.net.specs.Failure.{fails, failure_number}
+use Rattle.net.specs.Told.{number_of}
+use Rattle.net.specs.declared.interface.Interface.{Interface}
+use Rattle.net.specs.declared.interface.Node.{Node}
+use Rattle.net.specs.declared.refusal.PlacedRefusal.{PlacedRefusal}
 use Rattle.tables.specs.Lent.{LentTables}
 use Rattle.walk.specs.Lent.{tables_for, lent_verdict}
 use Rattle.walk.specs.declared.question.Question.{Question}
 use Rattle.walk.specs.declared.steps.Asked.{Asked}
 use Rattle.walk.specs.declared.steps.Asked.TheVariants.{Start, Arrival}
-use Rattle.walk.specs.declared.steps.Stepped.{Stepped}
-use Rattle.walk.specs.declared.steps.Stepped.TheVariants.{Refused, Delivered, NothingToFollow, Dropped, Next}
+use Rattle.walk.specs.declared.steps.Stepped.{Stepped as SteppedOn}
+use Rattle.walk.specs.declared.steps.Stepped.TheVariants.{Delivered as OnDelivered, NothingToFollow as OnNothing, Dropped as OnDropped, Next as OnNext}
+
+-- What a step answers: its refusal with number and place, or "delivered, nothing to follow, dropped, or the next node with the interface
+-- entered".
+pub data Stepped : Type 0 where
+  Refused : ℕ → ℕ → Stepped
+  Delivered : Stepped
+  NothingToFollow : Stepped
+  Dropped : Stepped
+  Next : Node → Interface → Stepped
+
+-- the same of the code's answer, where nothing is refused and where something may be
+abbrev pub step_named : SteppedOn → Stepped
+step_named OnDelivered = Delivered
+step_named OnNothing = NothingToFollow
+step_named OnDropped = Dropped
+step_named (OnNext node interface) = Next node interface
+
+abbrev pub stepped_told : Result SteppedOn PlacedRefusal → Stepped
+stepped_told (Ok on) = step_named on
+stepped_told (Err refused) = Refused (number_of refused.refusal) refused.place
 
 -- "A step is asked either at a start node or on arrival over an interface": 13 for an interface, 11 for a start node
 unfoldable pub bad_interface : ℕ → Asked → Bool

@@ -1,47 +1,45 @@
 // Three tables as they are lent: what the byte of an entry says, and the check of every entry (16), which reads each byte once.
-ghost use Rattle.std.specs.Prelude.{◌≡◌, ◌*◌, length};
-ghost use Rattle.net.specs.Check.{Accepted};
-ghost use Rattle.net.specs.Rows.{tail_of};
+ghost use Rattle.std.specs.Prelude.{◌≡◌, ℕ};
+ghost use Rattle.net.specs.Check.{Accepted, verdict};
+ghost use Rattle.net.specs.Lent.{rows_lent};
+ghost use Rattle.net.specs.Told.{number_told, told};
+ghost use Rattle.tables.specs.Lent.{tables_lent};
 ghost use Rattle.walk.specs.Lent.{hop_at, byte_passes, table_passes, tables_pass, tables_verdict, lent_verdict};
-ghost use Rattle.walk.specs.inner.Reading.{found_by, Paired, row_passes, Checking, CheckingAll};
+ghost use Rattle.walk.specs.inner.Reading.{found_by, Paired, row_passes, Checking, CheckingAll, Decides};
 
-use net::{Interface, Node, Verdict, check_network, entry, refusal, tail_of, unplaced};
+use net::{Interface, LentRows, Node, PlacedRefusal, Refusal, check_network, entry};
+use tables::Tables;
 use tables::inner::tables_short;
 
-// An entry's answer: the next node with the interface that leads there, or nothing to follow.
-#[derive(Clone, Copy)]
-pub enum Found {
-    Next(Node, Interface),
-    Absent,
-}
-
-// What the byte of an entry says at a node: the link that it names leads from one of its ends to the other. This is the only place that
-// knows what a byte means. 254 and 255 are no links, so they need no test of their own.
+// What the byte of an entry says at a node: the next node with the interface that leads there, or that there is nothing to follow. The
+// link that the byte names leads from one of its ends to the other. This is the only place that knows what a byte means. 254 and 255 are
+// no links, so they need no test of their own.
 #[tactic(auto, using(crate::proofs::Hops::found_no_link, crate::proofs::Hops::found_from_low, crate::proofs::Hops::found_from_high, crate::proofs::Hops::found_apart))]
-pub fn look_up(low: &[u8], high: &[u8], node: Node, byte: u8) -> Found
-    requires { Paired low.now high.now }
-    ensures { result ≡ found_by low.now high.now
-        (hop_at low.now high.now node.0 byte) }
+pub fn look_up(network: &LentRows<'_>, node: Node, byte: u8) -> Option<(Node, Interface)>
+    requires { Paired network.now.low.now network.now.high.now }
+    ensures { result ≡ found_by network.now.low.now network.now.high.now
+        (hop_at network.now.low.now network.now.high.now node.0 byte) }
 {
     let k = byte as usize;
-    if low.len() <= k {
-        return Found::Absent;
+    if network.low.len() <= k {
+        return None;
     }
-    let x = low[k] as usize;
-    let y = high[k] as usize;
+    let x = network.low[k] as usize;
+    let y = network.high[k] as usize;
     if x == node.0 {
-        return Found::Next(Node(y), Interface(2 * k));
+        return Some((Node(y), Interface(2 * k)));
     }
     if y == node.0 {
-        return Found::Next(Node(x), Interface(2 * k + 1));
+        return Some((Node(x), Interface(2 * k + 1)));
     }
-    Found::Absent
+    None
 }
 
 // One entry of a deciding node for destination d.
-fn byte_passes(low: &[u8], high: &[u8], node: Node, d: usize, byte: u8) -> bool
-    requires { Paired low.now high.now }
-    ensures { result ≡ byte_passes low.now high.now node.0 d byte }
+#[tactic(auto, using(crate::proofs::Hops::own_passes, crate::proofs::Hops::nowhere_passes, crate::proofs::Hops::found_passes))]
+fn byte_passes(network: &LentRows<'_>, node: Node, d: usize, byte: u8) -> bool
+    requires { Paired network.now.low.now network.now.high.now }
+    ensures { result ≡ byte_passes network.now.low.now network.now.high.now node.0 d byte }
 {
     if d == node.0 {
         return byte == entry::HERE;
@@ -49,139 +47,95 @@ fn byte_passes(low: &[u8], high: &[u8], node: Node, d: usize, byte: u8) -> bool
     if byte == entry::NOWHERE {
         return true;
     }
-    let Found::Next(_, _) = look_up(low, high, node, byte) else {
-        return false;
-    };
-    true
+    look_up(network, node, byte).is_some()
 }
 
 // A row of a deciding node.
-fn row_passes(low: &[u8], high: &[u8], node: Node, row: &[u8]) -> bool
-    requires { Paired low.now high.now }
-    ensures { result ≡ row_passes low.now high.now node.0 row.now }
+fn row_passes(network: &LentRows<'_>, node: Node, row: &[u8]) -> bool
+    requires { Paired network.now.low.now network.now.high.now }
+    ensures { result ≡ row_passes network.now.low.now network.now.high.now node.0 row.now }
 {
-    let mut d: usize = 0;
-    while d < row.len() {
-        if !byte_passes(low, high, node, d, row[d]) {
+    for (d, byte) in row.iter().enumerate() {
+        if !byte_passes(network, node, d, *byte) {
             return false;
         }
-        d += 1;
     }
     true
 }
 
-// The routing table: row i is decided at node i.
-fn routing_passes(n: usize, low: &[u8], high: &[u8], table: &[u8]) -> bool
-    requires { Checking n low.now high.now n table.now }
-    ensures { result ≡ table_passes n low.now high.now n (λ i. i) table.now }
-{
-    let mut i: usize = 0;
-    while i < n {
-        let from = i * n;
-        let to = from + n;
-        if !row_passes(low, high, Node(i), &table[from..to]) {
-            return false;
-        }
-        i += 1;
-    }
-    true
-}
-
-// A table with a row for each interface. Backwarding rows are decided at the tail; forwarding rows at the head, which is the tail with
-// the two rows of ends exchanged.
-fn interfaces_pass(
-    n: usize,
-    low: &[u8],
-    high: &[u8],
-    first: &[u8],
-    second: &[u8],
+// A table of so many rows, each decided at the node that `decider` gives for it.
+fn table_passes<F: Fn(usize) -> Node>(
+    network: &LentRows<'_>,
+    rows: usize,
     table: &[u8],
+    decider: F,
 ) -> bool
-    requires { Checking n low.now high.now (2 * length low.now) table.now }
-    ensures { result ≡ table_passes n low.now high.now
-        (2 * length low.now) (tail_of first.now second.now) table.now }
+    requires callable { F.IsAlwaysCallable decider }
+    requires ready { Checking (rows_lent network.now) rows table.now }
+    ensures { (deciding : ℕ → ℕ) → Decides (F.post decider) rows deciding
+        → result ≡ table_passes network.now.nodes network.now.low.now network.now.high.now rows deciding table.now }
 {
-    let interfaces = 2 * low.len();
-    let mut h: usize = 0;
-    while h < interfaces {
-        let from = h * n;
+    let n = network.nodes;
+    for row in 0..rows {
+        let from = row * n;
         let to = from + n;
-        let node = tail_of(Interface(h), first, second);
-        if !row_passes(low, high, node, &table[from..to]) {
+        if !row_passes(network, decider(row), &table[from..to]) {
             return false;
         }
-        h += 1;
     }
     true
 }
 
-// 16, of tables that are long enough.
-fn tables_pass(
-    n: usize,
-    low: &[u8],
-    high: &[u8],
-    routing: &[u8],
-    forwarding: &[u8],
-    backwarding: &[u8],
-) -> bool
-    requires { CheckingAll n low.now high.now
-        (record { routing = routing.now; forwarding = forwarding.now; backwarding = backwarding.now }) }
-    ensures { result ≡ tables_pass n low.now high.now
-        (record { routing = routing.now; forwarding = forwarding.now; backwarding = backwarding.now }) }
+// 16, of tables that are long enough. Row i of the routing table is decided at node i; the rows of an interface at its head, those of the
+// backwarding table at its tail.
+fn tables_pass(network: &LentRows<'_>, tables: &Tables<'_>) -> bool
+    requires { CheckingAll (rows_lent network.now) (tables_lent tables.now) }
+    ensures { result ≡ tables_pass network.now.nodes network.now.low.now network.now.high.now (tables_lent tables.now) }
 {
-    if !routing_passes(n, low, high, routing) {
+    let interfaces = 2 * network.low.len();
+    if !table_passes(network, network.nodes, tables.routing, |i| Node(i)) {
         return false;
     }
-    if !interfaces_pass(n, low, high, high, low, forwarding) {
+    if !table_passes(
+        network,
+        interfaces,
+        tables.forwarding,
+        |h| network.head_of(Interface(h)),
+    ) {
         return false;
     }
-    interfaces_pass(n, low, high, low, high, backwarding)
+    table_passes(
+        network,
+        interfaces,
+        tables.backwarding,
+        |h| network.tail_of(Interface(h)),
+    )
 }
 
 // 14, then 16, of tables lent beside an accepted network.
-fn tables_verdict(
-    n: usize,
-    low: &[u8],
-    high: &[u8],
-    weight: &[u32],
-    routing: &[u8],
-    forwarding: &[u8],
-    backwarding: &[u8],
-) -> Verdict
-    requires { Accepted (record { nodes = n; low = low.now; high = high.now; weight = weight.now }) }
-    ensures { result ≡ tables_verdict
-        (record { nodes = n; low = low.now; high = high.now; weight = weight.now })
-        (record { routing = routing.now; forwarding = forwarding.now; backwarding = backwarding.now }) }
+fn check_tables(network: &LentRows<'_>, tables: &Tables<'_>) -> Result<(), Refusal>
+    requires { Accepted (rows_lent network.now) }
+    ensures { verdict (number_told result) ≡ tables_verdict (rows_lent network.now) (tables_lent tables.now) }
 {
-    if tables_short(n, low.len(), routing, forwarding, backwarding) {
-        return unplaced(refusal::TABLE_LENGTH);
+    if tables_short(network.nodes, network.low.len(), tables) {
+        return Err(Refusal::TableLength);
     }
-    if !tables_pass(n, low, high, routing, forwarding, backwarding) {
-        return unplaced(refusal::TABLE_ENTRY);
+    if !tables_pass(network, tables) {
+        return Err(Refusal::TableEntry);
     }
-    unplaced(refusal::NONE)
+    Ok(())
 }
 
-// The refusal of every entry that reads tables: the network's, then that of what is asked (its number, or 0), then 14 and 16.
-pub fn lent_verdict(
-    n: usize,
-    low: &[u8],
-    high: &[u8],
-    weight: &[u32],
-    number: u8,
-    routing: &[u8],
-    forwarding: &[u8],
-    backwarding: &[u8],
-) -> Verdict
-    ensures { result ≡ lent_verdict (record { nodes = n; low = low.now; high = high.now; weight = weight.now })
-        (record { routing = routing.now; forwarding = forwarding.now; backwarding = backwarding.now }) number }
+// The refusal of every entry that reads tables: the network's, then that of what is asked, then 14 and 16.
+pub fn check_lent(
+    network: &LentRows<'_>,
+    asked: Result<(), Refusal>,
+    tables: &Tables<'_>,
+) -> Result<(), PlacedRefusal>
+    ensures { told result ≡ lent_verdict (rows_lent network.now) (tables_lent tables.now) (number_told asked) }
 {
-    let verdict = check_network(n, low, high, weight);
-    if verdict.number != refusal::NONE {
-        return verdict;
-    }
-    if number != refusal::NONE {
-        return unplaced(number);
-    }
-    tables_verdict(n, low, high, weight, routing, forwarding, backwarding)
+    check_network(network)?;
+    asked?;
+    check_tables(network, tables)?;
+    Ok(())
 }

@@ -1,29 +1,24 @@
 // The walk: two kinds of move in a cycle. The forwarding move goes along working links, in a loop; where it meets the failed link it turns
 // to the backwarding move, which crosses one link and hands the packet on to the next node's forwarding move. The remaining hop limit falls
-// at each crossed link, in either. Only the turning round is a call, since a call copies every parameter and a walk is made 64,480 times
-// in a report. The moves are lent what they read and no more, and promise their walk for every network and tables that this belongs to.
-ghost use Rattle.std.specs.Prelude.{◌≡◌, ◌+◌, ◌*◌};
+// at each crossed link, in either. Only the turning round is a call, since a walk is made 64,480 times in a report.
+ghost use Rattle.std.specs.Prelude.{◌≡◌};
 ghost use Rattle.graph.specs.Network.{tail};
+ghost use Rattle.net.specs.Lent.{rows_lent};
 ghost use Rattle.net.specs.Rows.{network_of};
-ghost use Rattle.walk.specs.Walk.{ending_number, course_of};
-ghost use Rattle.walk.specs.inner.Ground.{Ground, rows_on, tables_on};
+ghost use Rattle.tables.specs.Lent.{tables_lent};
+ghost use Rattle.walk.specs.Walk.{ending_named, course_of};
 ghost use Rattle.walk.specs.inner.Moves.{lost_ending, HopLeft, moved_on, course_from, course_around, Standing, Turning, Went};
 ghost use Rattle.walk.specs.inner.Moves.{Setting, WentFrom};
 
-use crate::lent::{Found, look_up};
+use crate::around::look_around;
+use crate::lent::look_up;
 use crate::question::Question;
-use net::{Interface, Node, blocked};
+use crate::walked::{Ending, Walked};
+use net::{Interface, LentRows, Node, blocked};
+use tables::Tables;
 
-// The endings of document 01, without 4 (document 02, L7).
-pub const DELIVERED: u8 = 0;
-
-pub const UNROUTED: u8 = 1;
-
-pub const DROPPED: u8 = 2;
-
-pub const EXHAUSTED: u8 = 3;
-
-// A packet on its way: where it stands, the entry that it reads there, the hops left and made, and whether it arrived over a link.
+// A packet on its way: where it stands, the entry that it reads there, the hops left and made, and whether it arrived over a link, by
+// which `lost_ending` tells two endings apart.
 #[derive(Clone, Copy)]
 pub struct Packet {
     pub node: Node,
@@ -33,31 +28,26 @@ pub struct Packet {
     pub arrived: bool,
 }
 
-// How a walk ended and how many links it crossed.
-#[derive(Clone, Copy)]
-pub struct Outcome {
-    pub ending: u8,
-    pub hops: usize,
-}
-
 // The ending where there is nothing to follow: on arrival that of a packet dropped.
-fn lost_ending(arrived: bool) -> u8
-    ensures { result ≡ ending_number (lost_ending arrived) }
+#[tactic(auto, unfolding(crate::specs::inner::Moves::lost_ending))]
+fn lost_ending(arrived: bool) -> Ending
+    ensures { ending_named result ≡ lost_ending arrived }
 {
     if arrived {
-        return DROPPED;
+        return Ending::Dropped;
     }
-    UNROUTED
+    Ending::Unrouted
 }
 
 // The packet after one hop more.
+#[tactic(auto, unfolding(crate::specs::inner::Moves::moved_on))]
 fn moved(packet: Packet, node: Node, entry: u8) -> Packet
     requires { HopLeft packet }
     ensures { result ≡ moved_on packet node entry }
 {
     Packet {
-        node: node,
-        entry: entry,
+        node,
+        entry,
         left: packet.left - 1,
         hops: packet.hops + 1,
         arrived: true,
@@ -67,55 +57,40 @@ fn moved(packet: Packet, node: Node, entry: u8) -> Packet
 // From where the packet stands: at the source, or past a link just crossed.
 #[cycle(moves)]
 fn forwarding_move(
-    low: &[u8],
-    high: &[u8],
-    n: usize,
-    forwarding: &[u8],
-    backwarding: &[u8],
+    network: &LentRows<'_>,
+    tables: &Tables<'_>,
     question: Question,
     packet: Packet,
     trace: &mut [u8],
-) -> Outcome
-    requires { Standing n low.now high.now forwarding.now backwarding.now question packet trace.old }
-    ensures { (on : Ground n low.now high.now forwarding.now backwarding.now)
-        → Went (network_of (rows_on on)) (course_from (rows_on on) (tables_on on) question packet)
+) -> Walked
+    requires { Standing (rows_lent network.now) (tables_lent tables.now) question packet trace.old }
+    ensures { Went (network_of (rows_lent network.now)) (course_from (rows_lent network.now) (tables_lent tables.now) question packet)
         packet.hops trace.old result trace.new }
 {
     let mut here = packet;
-    while here.node.0 != question.destination.0 {
+    while here.node != question.destination {
         if here.left == 0 {
-            return Outcome {
-                ending: EXHAUSTED,
+            return Walked {
+                ending: Ending::Exhausted,
                 hops: here.hops,
             };
         }
-        let Found::Next(node, f) = look_up(low, high, here.node, here.entry) else {
-            return Outcome {
+        let Some((node, f)) = look_up(network, here.node, here.entry) else {
+            return Walked {
                 ending: lost_ending(here.arrived),
                 hops: here.hops,
             };
         };
-        let failure = question.failure;
-        if blocked(failure, f) {
-            return backwarding_move(
-                low,
-                high,
-                n,
-                forwarding,
-                backwarding,
-                question,
-                here,
-                f,
-                trace,
-            );
+        if blocked(question.failure, f) {
+            return backwarding_move(network, tables, question, here, f, trace);
         }
         let next = here.hops + 1;
         trace[next] = node.0 as u8;
-        let entry = forwarding[f.0 * n + question.destination.0];
+        let entry = tables.forwarding[f.0 * network.nodes + question.destination.0];
         here = moved(here, node, entry);
     }
-    Outcome {
-        ending: DELIVERED,
+    Walked {
+        ending: Ending::Delivered,
         hops: here.hops,
     }
 }
@@ -123,93 +98,52 @@ fn forwarding_move(
 // At a node whose entry leads over the failed link by interface f.
 #[cycle(moves)]
 fn backwarding_move(
-    low: &[u8],
-    high: &[u8],
-    n: usize,
-    forwarding: &[u8],
-    backwarding: &[u8],
+    network: &LentRows<'_>,
+    tables: &Tables<'_>,
     question: Question,
     packet: Packet,
     f: Interface,
     trace: &mut [u8],
-) -> Outcome
-    requires { Turning n low.now high.now forwarding.now backwarding.now question packet f.0 trace.old }
-    ensures { (on : Ground n low.now high.now forwarding.now backwarding.now)
-        → tail (network_of (rows_on on)) f.0 ≡ packet.node.0
-        → Went (network_of (rows_on on)) (course_around (rows_on on) (tables_on on) question packet f.0)
+) -> Walked
+    requires { Turning (rows_lent network.now) (tables_lent tables.now) question packet f.0 trace.old }
+    ensures { tail (network_of (rows_lent network.now)) f.0 ≡ packet.node.0
+        → Went (network_of (rows_lent network.now)) (course_around (rows_lent network.now) (tables_lent tables.now) question packet f.0)
         packet.hops trace.old result trace.new }
 {
-    let back = backwarding[f.0 * n + question.destination.0];
-    let Found::Next(node, g) = look_up(low, high, packet.node, back) else {
-        return Outcome {
-            ending: DROPPED,
+    let Some((node, g)) = look_around(network, tables, question, packet.node, f) else {
+        return Walked {
+            ending: Ending::Dropped,
             hops: packet.hops,
         };
     };
-    let failure = question.failure;
-    if blocked(failure, g) {
-        return Outcome {
-            ending: DROPPED,
-            hops: packet.hops,
-        };
-    }
     let next = packet.hops + 1;
     trace[next] = node.0 as u8;
-    let entry = forwarding[g.0 * n + question.destination.0];
-    forwarding_move(
-        low,
-        high,
-        n,
-        forwarding,
-        backwarding,
-        question,
-        moved(packet, node, entry),
-        trace,
-    )
+    let entry = tables.forwarding[g.0 * network.nodes + question.destination.0];
+    forwarding_move(network, tables, question, moved(packet, node, entry), trace)
 }
 
 // A walk over tables that have been checked.
 pub fn walk_from(
-    n: usize,
-    low: &[u8],
-    high: &[u8],
-    weight: &[u32],
-    routing: &[u8],
-    forwarding: &[u8],
-    backwarding: &[u8],
+    network: &LentRows<'_>,
+    tables: &Tables<'_>,
     source: Node,
     question: Question,
     limit: usize,
     trace: &mut [u8],
-) -> Outcome
-    requires { Setting (record { nodes = n; low = low.now; high = high.now; weight = weight.now })
-        (record { routing = routing.now; forwarding = forwarding.now; backwarding = backwarding.now })
-        source.0 question limit trace.old }
-    ensures { WentFrom
-        (network_of (record { nodes = n; low = low.now; high = high.now; weight = weight.now }))
-        source.0
-        (course_of (record { nodes = n; low = low.now; high = high.now; weight = weight.now })
-        (record { routing = routing.now; forwarding = forwarding.now; backwarding = backwarding.now })
-        source.0 question limit)
+) -> Walked
+    requires { Setting (rows_lent network.now) (tables_lent tables.now) source.0 question limit trace.old }
+    ensures { WentFrom (network_of (rows_lent network.now)) source.0
+        (course_of (rows_lent network.now) (tables_lent tables.now) source.0 question limit)
         trace.old result trace.new }
 {
     let s = source.0;
     trace[0] = s as u8;
     let packet = Packet {
         node: source,
-        entry: routing[s * n + question.destination.0],
+        entry: tables.routing[s * network.nodes + question.destination.0],
         left: limit,
         hops: 0,
         arrived: false,
     };
-    forwarding_move(
-        low,
-        high,
-        n,
-        forwarding,
-        backwarding,
-        question,
-        packet,
-        trace,
-    )
+    forwarding_move(network, tables, question, packet, trace)
 }

@@ -1,141 +1,69 @@
-// The public walk: one verdict, one branch, and the walk over tables that have been checked.
-ghost use Rattle.std.specs.Prelude.{◌≡◌};
-ghost use Rattle.walk.specs.Walk.{walk_number, walk_verdict, walk_answer, trace_after};
+// The public walk: the checks one after the other, and the walk over tables that have been checked.
+ghost use Rattle.std.specs.Prelude.{◌≡◌, length};
+ghost use Rattle.net.specs.Lent.{rows_lent};
+ghost use Rattle.net.specs.Told.{number_told, told};
+ghost use Rattle.tables.specs.Lent.{tables_lent};
+ghost use Rattle.walk.specs.Walk.{walk_number, walk_verdict, walked_told, walk_answer, trace_after};
 
-use crate::lent::lent_verdict;
+use crate::lent::check_lent;
 use crate::moves::walk_from;
 use crate::question::Question;
-use net::{Failure, Node, Verdict, failure_number, refusal, unplaced};
+use crate::walked::Walked;
+use net::{Failure, LentRows, Node, PlacedRefusal, Refusal, check_failure};
+use tables::Tables;
 
-// What the entry answers; after a refusal ending and hop count are 0.
-#[derive(Clone, Copy)]
-pub struct Walked {
-    pub number: u8,
-    pub place: usize,
-    pub ending: u8,
-    pub hops: usize,
-}
-
-// 12, 11 (source, then destination): the first that holds, or 0.
-fn walk_number(n: usize, links: usize, source: Node, question: Question) -> u8
-    ensures { result ≡ walk_number n links source.0 question }
+// 12, 11 (source, then destination): the first that holds.
+#[tactic(auto, unfolding(crate::specs::Walk::walk_number, net::specs::Check::first_number))]
+fn check_walk(network: &LentRows<'_>, source: Node, question: Question) -> Result<(), Refusal>
+    ensures { number_told result ≡ walk_number network.now.nodes (length network.now.low.now) source.0 question }
 {
-    let failure = question.failure;
-    let failed = failure_number(links, failure);
-    if failed != refusal::NONE {
-        return failed;
+    check_failure(network.low.len(), question.failure)?;
+    if network.nodes <= source.0 {
+        return Err(Refusal::NodeNumber);
     }
-    if n <= source.0 {
-        return refusal::NODE_NUMBER;
+    if network.nodes <= question.destination.0 {
+        return Err(Refusal::NodeNumber);
     }
-    if n <= question.destination.0 {
-        return refusal::NODE_NUMBER;
-    }
-    refusal::NONE
+    Ok(())
 }
 
 // The refusals of network, question and tables, then 15.
-fn walk_verdict(
-    n: usize,
-    low: &[u8],
-    high: &[u8],
-    weight: &[u32],
-    routing: &[u8],
-    forwarding: &[u8],
-    backwarding: &[u8],
+fn check_lent_walk(
+    network: &LentRows<'_>,
+    tables: &Tables<'_>,
     source: Node,
     question: Question,
     limit: u8,
     trace: &[u8],
-) -> Verdict
-    ensures { result ≡ walk_verdict (record { nodes = n; low = low.now; high = high.now; weight = weight.now })
-        (record { routing = routing.now; forwarding = forwarding.now; backwarding = backwarding.now })
-        source.0 question limit trace.now }
+) -> Result<(), PlacedRefusal>
+    ensures { told result ≡ walk_verdict (rows_lent network.now) (tables_lent tables.now) source.0 question limit trace.now }
 {
-    let number = walk_number(n, low.len(), source, question);
-    let lent = lent_verdict(
-        n,
-        low,
-        high,
-        weight,
-        number,
-        routing,
-        forwarding,
-        backwarding,
-    );
-    if lent.number != refusal::NONE {
-        return lent;
-    }
+    check_lent(network, check_walk(network, source, question), tables)?;
     if trace.len() <= limit as usize {
-        return unplaced(refusal::TRACE_LENGTH);
+        return Err(Refusal::TraceLength.at(0));
     }
-    unplaced(refusal::NONE)
+    Ok(())
 }
 
 pub fn walk(
-    n: usize,
-    low: &[u8],
-    high: &[u8],
-    weight: &[u32],
-    routing: &[u8],
-    forwarding: &[u8],
-    backwarding: &[u8],
+    network: &LentRows<'_>,
+    tables: &Tables<'_>,
     source: Node,
     destination: Node,
     failure: Failure,
     limit: u8,
     trace: &mut [u8],
-) -> Walked
-    ensures value { result ≡ walk_answer (record { nodes = n; low = low.now; high = high.now; weight = weight.now })
-        (record { routing = routing.now; forwarding = forwarding.now; backwarding = backwarding.now })
+) -> Result<Walked, PlacedRefusal>
+    ensures value { walked_told result ≡ walk_answer (rows_lent network.now) (tables_lent tables.now)
         source.0 (record { destination = destination; failure = failure }) limit trace.old }
-    ensures trace_after { trace.new ≡ trace_after
-        (record { nodes = n; low = low.now; high = high.now; weight = weight.now })
-        (record { routing = routing.now; forwarding = forwarding.now; backwarding = backwarding.now })
+    ensures trace_after { trace.new ≡ trace_after (rows_lent network.now) (tables_lent tables.now)
         source.0 (record { destination = destination; failure = failure }) limit trace.old }
 {
     let question = Question {
-        destination: destination,
-        failure: failure,
+        destination,
+        failure,
     };
-    let verdict = walk_verdict(
-        n,
-        low,
-        high,
-        weight,
-        routing,
-        forwarding,
-        backwarding,
-        source,
-        question,
-        limit,
-        trace,
-    );
-    if verdict.number != refusal::NONE {
-        return Walked {
-            number: verdict.number,
-            place: verdict.place,
-            ending: 0,
-            hops: 0,
-        };
-    }
-    let outcome = walk_from(
-        n,
-        low,
-        high,
-        weight,
-        routing,
-        forwarding,
-        backwarding,
-        source,
-        question,
-        limit as usize,
-        trace,
-    );
-    Walked {
-        number: refusal::NONE,
-        place: 0,
-        ending: outcome.ending,
-        hops: outcome.hops,
-    }
+    check_lent_walk(network, tables, source, question, limit, trace)?;
+    let walked = walk_from(network, tables, source, question, limit as usize, trace);
+    Ok(walked)
 }

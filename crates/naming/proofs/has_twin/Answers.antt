@@ -21,5 +21,5 @@ pub returns : goal.returns
 unfolding has_twin
 returns c =
     let at = c.loop-k in
-    let all : at.k ≡ length c.args.low.now = omega (arith, at.invariant.0, c.loop-k-test.false) in
+    let all : at.k ≡ length c.args.network.now.low.now = omega (arith, at.invariant.0, c.loop-k-test.false) in
     sym (rw all at at.invariant.1)

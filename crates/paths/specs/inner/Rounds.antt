@@ -1,6 +1,7 @@
 -- How the code fills a column: rounds over the links, each of which offers its two ends their ways over it, until a round changes nothing.
 -- That this leaves the best column is proved (proofs/BestColumn.antt).
 use Rattle.std.specs.Prelude.{ℕ, zero, suc, ◌+◌, ◌*◌, ◌-◌, ◌≤◌, ◌<◌, Bool, true, false, not, ◌≡◌, List, length, get_or, set, replicate}
+use Rattle.std.specs.Prelude.{Option, Some, None}
 use Rattle.net.specs.Limits.{most_nodes, most_links}
 use Rattle.net.specs.Choice.{pick, both}
 use Rattle.net.specs.Rows.{Rows}
@@ -9,7 +10,6 @@ use Rattle.net.specs.declared.link_set.LinkSet.{LinkSet}
 use Rattle.paths.specs.inner.Cost.{no_cost, here_cost, is_known, before, extended}
 use Rattle.paths.specs.inner.Column.{entry_at}
 use Rattle.paths.specs.declared.cost.Cost.{Cost}
-use Rattle.paths.specs.declared.column.Revised.{Revised}
 
 -- rows of ends that are places of a column
 pub record Placed (low high : List ℕ) : Type 0 where
@@ -22,6 +22,16 @@ pub record Placed (low high : List ℕ) : Type 0 where
 pub record Linked (low high weight : List ℕ) : Type 0 where
   pub ends : Placed low high
   pub weight_row : length weight ≡ length low
+
+-- what one pass over a column leaves, and whether it changed a cost
+pub record Revised : Type 0 where
+  pub column : List Cost
+  pub changed : Bool
+
+-- what a pass answers: the column that it changed, or none where it left the column as it was
+abbrev pub revised_told : List Cost → Option (List Cost) → Revised
+revised_told column (Some next) = record { column = next; changed = true }
+revised_told column None = record { column = column; changed = false }
 
 -- a pass over a column: the column with which it begins, and one place replaced
 abbrev pub unrevised : List Cost → Revised

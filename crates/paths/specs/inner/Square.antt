@@ -1,5 +1,5 @@
 -- The square of costs: "the work keeps a square of costs, 32 by 32". It has a column for each destination.
-use Rattle.std.specs.Prelude.{ℕ, ◌≤◌, ◌<◌, List, [], get_or}
+use Rattle.std.specs.Prelude.{ℕ, ◌≤◌, ◌<◌, ◌≡◌, List, [], get_or}
 use Rattle.graph.specs.Network.{Network}
 use Rattle.net.specs.Limits.{most_nodes}
 use Rattle.paths.specs.inner.Column.{entry_at, BestColumn}
@@ -11,6 +11,11 @@ column_for square d = get_or square d []
 -- the entry of node i for destination d
 abbrev pub cell : List (List Cost) → ℕ → ℕ → Cost
 cell square i d = entry_at (column_for square d) i
+
+-- a square turned: row i has at place d what row d has at place i, each below n, whatever would stand past a row's end
+abbrev pub IsTurned : {A : Type 0} → List (List A) → ℕ → List (List A) → Type 0
+IsTurned {A} square n turned =
+    (past : A) (i d : ℕ) → i < n → d < n → get_or (get_or turned i []) d past ≡ get_or (get_or square d []) i past
 
 -- the best paths to every node, over the links left in
 abbrev pub BestSquare : Network → (ℕ → Type 0) → List (List Cost) → Type 0

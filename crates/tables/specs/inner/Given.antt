@@ -1,5 +1,5 @@
 -- What each function of the builder is given: the facts that the checks before it have brought.
-use Rattle.std.specs.Prelude.{ℕ, ◌+◌, ◌*◌, ◌≤◌, ◌<◌, ◌≡◌, List, length, get_or}
+use Rattle.std.specs.Prelude.{ℕ, ◌+◌, ◌*◌, ◌≤◌, ◌<◌, List, length, get_or}
 use Rattle.graph.specs.Path.{All, But}
 use Rattle.graph.specs.Set.{SetOf}
 use Rattle.graph.specs.Entries.{KeyLink}
@@ -25,11 +25,6 @@ pub record Asked (R : Rows) (h d : ℕ) : Type 0 where
   pub network : Accepted R
   pub interface : h < 2 * length R.low
   pub destination : d < R.nodes
-
--- the part of a table that is one row
-pub record OneRow (n : ℕ) (row : List ℕ) : Type 0 where
-  pub few_nodes : n ≤ most_nodes
-  pub width : length row ≡ n
 
 -- a table with room for so many rows, and the best paths over all links
 pub record Filling (R : Rows) (rows : ℕ) (table : List ℕ) (all : List (List Cost)) : Type 0 where

@@ -8,13 +8,12 @@ use Rattle.net.specs.Failure.{fails}
 use Rattle.net.specs.inner.Overwritten.{overwritten}
 use Rattle.tables.specs.Lent.{LentTables}
 use Rattle.walk.specs.Lent.{hop_at, tables_for}
-use Rattle.walk.specs.Walk.{ending_number}
+use Rattle.walk.specs.Walk.{ending_named}
 use Rattle.walk.specs.inner.Reading.{Ready}
-use Rattle.walk.specs.inner.Ground.{Ground}
 use Rattle.net.specs.declared.interface.Node.{Node}
 use Rattle.walk.specs.declared.question.Question.{Question}
 use Rattle.walk.specs.declared.moves.Packet.{Packet}
-use Rattle.walk.specs.declared.moves.Outcome.{Outcome}
+use Rattle.walk.specs.declared.walked.Walked.{Walked}
 
 -- the ending where nothing is to be followed: at the start, or "on arrival" (document 02, L7)
 unfoldable pub lost_ending : Bool → Ending
@@ -48,22 +47,21 @@ course_around R T question packet f =
     goes_on (walk_on (network_of R) failed entries d (packet.left - 1)) dropped (around failed (entries.backwarding f))
 
 -- what is known where a packet stands at a node
-pub record Standing (n : ℕ) (low high forwarding backwarding : List ℕ) (question : Question) (packet : Packet) (trace : List ℕ) : Type 0 where
-  pub ground : Ground n low high forwarding backwarding
-  pub destination : question.destination.0 < n
-  pub node : packet.node.0 < n
+pub record Standing (R : Rows) (T : LentTables) (question : Question) (packet : Packet) (trace : List ℕ) : Type 0 where
+  pub ready : Ready R T
+  pub destination : question.destination.0 < R.nodes
+  pub node : packet.node.0 < R.nodes
   pub room : packet.hops + packet.left < length trace
 
 -- and where its entry leads over the failed link, by interface f
-pub record Turning (n : ℕ) (low high forwarding backwarding : List ℕ) (question : Question) (packet : Packet) (f : ℕ) (trace : List ℕ) :
-    Type 0 where
-  pub standing : Standing n low high forwarding backwarding question packet trace
+pub record Turning (R : Rows) (T : LentTables) (question : Question) (packet : Packet) (f : ℕ) (trace : List ℕ) : Type 0 where
+  pub standing : Standing R T question packet trace
   pub some : 0 < packet.left
-  pub interface : f < 2 * length low
+  pub interface : f < 2 * length R.low
 
 -- what a move answers and leaves in the trace, `hops` links having been crossed before it
-pub record Went (N : Network) (course : Course) (hops : ℕ) (before : List ℕ) (r : Outcome) (after : List ℕ) : Type 0 where
-  pub ending : r.ending ≡ ending_number course.ending
+pub record Went (N : Network) (course : Course) (hops : ℕ) (before : List ℕ) (r : Walked) (after : List ℕ) : Type 0 where
+  pub ending : ending_named r.ending ≡ course.ending
   pub hops_more : r.hops ≡ hops + length course.crossed
   pub trace : after ≡ overwritten before (hops + 1) (map (head N) course.crossed)
 
@@ -75,7 +73,7 @@ pub record Setting (R : Rows) (T : LentTables) (s : ℕ) (question : Question) (
   pub room : limit < length trace
 
 -- a whole walk from s: the source stands first in the trace
-pub record WentFrom (N : Network) (s : ℕ) (course : Course) (before : List ℕ) (r : Outcome) (after : List ℕ) : Type 0 where
-  pub ending : r.ending ≡ ending_number course.ending
+pub record WentFrom (N : Network) (s : ℕ) (course : Course) (before : List ℕ) (r : Walked) (after : List ℕ) : Type 0 where
+  pub ending : ending_named r.ending ≡ course.ending
   pub hops : r.hops ≡ length course.crossed
   pub trace : after ≡ overwritten before 0 (visits N s course.crossed)

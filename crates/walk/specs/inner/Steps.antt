@@ -1,26 +1,35 @@
 -- What the parts of a step promise, and what is known where they are asked.
-use Rattle.std.specs.Prelude.{ℕ, ◌*◌, ◌<◌, List, length}
+use Rattle.std.specs.Prelude.{ℕ, ◌*◌, ◌<◌, length, Option, Some, None}
+use Rattle.graph.specs.Network.{link}
 use Rattle.graph.specs.Walk.{around}
+use Rattle.net.specs.Choice.{pick}
 use Rattle.net.specs.Rows.{Rows}
 use Rattle.net.specs.Failure.{fails}
+use Rattle.net.specs.declared.failure.Failure.{Failure}
+use Rattle.net.specs.declared.interface.Interface.{Interface}
+use Rattle.net.specs.declared.interface.Node.{Node}
 use Rattle.tables.specs.Lent.{LentTables}
 use Rattle.walk.specs.Lent.{tables_for}
-use Rattle.walk.specs.Step.{told}
-use Rattle.walk.specs.inner.Ground.{Ground}
+use Rattle.walk.specs.Step.{Stepped, told}
+use Rattle.walk.specs.inner.Reading.{Ready}
 use Rattle.walk.specs.declared.question.Question.{Question}
-use Rattle.walk.specs.declared.steps.Stepped.{Stepped}
 
 -- the step past the failed link, by the backwarding entry of interface f
 unfoldable pub step_around : Rows → LentTables → Question → ℕ → Stepped
 step_around R T question f = told R (around (fails question.failure) ((tables_for R T question.destination.0).backwarding f))
 
+-- what an entry finds, but over a link that has failed
+unfoldable pub unblocked : Failure → Option (Node × Interface) → Option (Node × Interface)
+unblocked failure None = None
+unblocked failure (Some (v, g)) = pick (fails failure (link g.0)) None (Some (v, g))
+
 -- a packet stands at node i
-pub record Placed (n : ℕ) (low high forwarding backwarding : List ℕ) (question : Question) (i : ℕ) : Type 0 where
-  pub ground : Ground n low high forwarding backwarding
-  pub destination : question.destination.0 < n
-  pub node : i < n
+pub record Placed (R : Rows) (T : LentTables) (question : Question) (i : ℕ) : Type 0 where
+  pub ready : Ready R T
+  pub destination : question.destination.0 < R.nodes
+  pub node : i < R.nodes
 
 -- and its entry leads over the failed link, by interface f
-pub record Rerouted (n : ℕ) (low high forwarding backwarding : List ℕ) (question : Question) (i f : ℕ) : Type 0 where
-  pub placed : Placed n low high forwarding backwarding question i
-  pub interface : f < 2 * length low
+pub record Rerouted (R : Rows) (T : LentTables) (question : Question) (i f : ℕ) : Type 0 where
+  pub placed : Placed R T question i
+  pub interface : f < 2 * length R.low

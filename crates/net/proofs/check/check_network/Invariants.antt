@@ -4,6 +4,7 @@ use Prim.Native.Nat.{ℕ, ◌≤◌, ◌-◌}
 use mathlib.Core.Path.{◌≡◌}
 use lib.ListN.{length}
 use Rattle.net.specs.Rows.{Rows}
+use Rattle.net.specs.Lent.{rows_lent}
 use Rattle.net.specs.Check.{span_before, check_network, links_from}
 use Rattle.net.specs.declared.check.Span.{Span}
 use Rattle.net.proofs.check.check_network.Given as goal
@@ -18,7 +19,4 @@ pub record From (R : Rows) (links : ℕ) (before : Span) (k : ℕ) : Type 0 wher
 
 abbrev pub invariant-loop-k : goal.invariant-loop-k
 invariant-loop-k l =
-    From (record { nodes = l.n; low = l.low; high = l.high; weight = l.weight }) l.links l.before l.k
-
-abbrev pub decreases-loop-k : goal.decreases-loop-k
-decreases-loop-k l = l.links - l.k
+    From (rows_lent l.network) l.links l.before l.k

@@ -12,7 +12,9 @@ use Rattle.net.specs.Entry.{here_byte, nowhere_byte}
 use Rattle.net.specs.Limits.{most_nodes}
 use Rattle.net.specs.Refusals.{accepted}
 use Rattle.net.specs.Rows.{Rows, network_of}
-use Rattle.net.specs.declared.check.Verdict.{Verdict}
+use Rattle.std.specs.Prelude.{Ok}
+use Rattle.net.specs.Told.{told}
+use borrow.Author.Tests.{eqb-true, eqb-false}
 use Rattle.net.specs.inner.LinkSet.{value}
 use Rattle.net.proofs.Accepted.{well_formed}
 use Rattle.net.proofs.Bytes.{here_byte_lem}
@@ -24,13 +26,13 @@ use Rattle.paths.proofs.Verdict.{number, Passed, passed, answered}
 use Rattle.paths.proofs.Answers.{shown_measures, unknown_measures, here_measures, entry_shows, known_byte, unknown_byte}
 use Rattle.paths.proofs.best.best_path.Goals as goal
 
--- the verdict has been asked for, and nothing is refused
-module _ (R : Rows) (s d : ℕ) (v : Verdict) (judged : v ≡ best_path_verdict R s d) (free : v.number ≡ accepted) where
-  accepts : (best_path_verdict R s d).number ≡ accepted
-  accepts = sym (ap number judged) ∙ free
+-- nothing is refused
+module _ (R : Rows) (s d : ℕ) (accepts : told {Answer = Unit} (Ok tt) ≡ best_path_verdict R s d) where
+  free : (best_path_verdict R s d).number ≡ accepted
+  free = sym (ap number accepts)
 
   passes : Passed R s d
-  passes = passed R s d accepts
+  passes = passed R s d free
 
   source_place : s < most_nodes
   source_place = omega (arith, passes.source, passes.network.few_nodes)
@@ -39,7 +41,7 @@ module _ (R : Rows) (s d : ℕ) (v : Verdict) (judged : v ≡ best_path_verdict 
   formed = well_formed R passes.network
 
   here : s ≡ d → BestPathAnswer R s d (record { number = accepted; place = 0; sum = 0; links = 0; entry = here_byte })
-  here e = answered R s d accepts (here_measures _ formed e) (here_byte_lem e)
+  here e = answered R s d free (here_measures _ formed e) (here_byte_lem e)
 
   -- away from the destination, the cost is read off the column, whatever it would be past the array's end
   module _ {column : List Cost} (long : length column ≡ most_nodes) (best : BestColumn (network_of R) All d column) (past : Cost)
@@ -52,33 +54,33 @@ module _ (R : Rows) (s d : ℕ) (v : Verdict) (judged : v ≡ best_path_verdict 
 
     found : is_known cost ≡ true → BestPathAnswer R s d
         (record { number = accepted; place = 0; sum = cost.sum; links = value cost.links; entry = link cost.first })
-    found sure = answered R s d accepts (shown_measures _ formed shown sure) (known_byte R passes.network shown away sure)
+    found sure = answered R s d free (shown_measures _ formed shown sure) (known_byte R passes.network shown away sure)
 
     none : is_known cost ≡ false → BestPathAnswer R s d
         (record { number = accepted; place = 0; sum = 0; links = 0; entry = nowhere_byte })
-    none lost = answered R s d accepts (unknown_measures _ formed shown lost) (unknown_byte R passes.network shown away lost)
+    none lost = answered R s d free (unknown_measures _ formed shown lost) (unknown_byte R passes.network shown away lost)
 
 pub column_of-column-requires : goal.column_of-column-requires
 column_of-column-requires c =
-    let at = passes _ _ _ _ c.best_path_verdict-verdict.ensures c.if-verdict-ne-NONE.false in
+    let at = passes _ _ _ c.in_ok-check_best_path.ensures in
     record { network = at.network; destination = at.destination }
 
-pub offset_bounds-column-s : goal.offset_bounds-column-s
-offset_bounds-column-s c = omega (arith, source_place _ _ _ _ c.best_path_verdict-verdict.ensures c.if-verdict-ne-NONE.false)
+pub offset_bounds-column-source : goal.offset_bounds-column-source
+offset_bounds-column-source c = omega (arith, source_place _ _ _ c.in_ok-check_best_path.ensures)
 
-pub bounds-column-s : goal.bounds-column-s
-bounds-column-s c = omega (arith, source_place _ _ _ _ c.best_path_verdict-verdict.ensures c.if-verdict-ne-NONE.false)
+pub bounds-column-source : goal.bounds-column-source
+bounds-column-source c = omega (arith, source_place _ _ _ c.in_ok-check_best_path.ensures)
 
-pub returns-then-s-d : goal.returns-then-s-d
-returns-then-s-d c = here _ _ _ _ c.best_path_verdict-verdict.ensures c.if-verdict-ne-NONE.false c.if-s-d.true
+pub returns-then-eq : goal.returns-then-eq
+returns-then-eq c = here _ _ _ c.in_ok-check_best_path.ensures (eqb-true _ _ (sym c.eq.ensures ∙ c.if-eq.true))
 
 pub returns-then-known : goal.returns-then-known
 returns-then-known c =
-    rw (c.number_of.ensures, c.onward.ensures)
-    (found _ _ _ _ c.best_path_verdict-verdict.ensures c.if-verdict-ne-NONE.false c.column_of-column.type_inv.1.0.1
-    c.column_of-column.ensures _ c.if-s-d.false (sym c.known.ensures ∙ c.if-known.true))
+    rw (c.number.ensures, c.onward.ensures)
+    (found _ _ _ c.in_ok-check_best_path.ensures c.column_of-column.type_inv.1.0.1 c.column_of-column.ensures _
+    (eqb-false _ _ (sym c.eq.ensures ∙ c.if-eq.false)) (sym c.known.ensures ∙ c.if-known.true))
 
 pub returns : goal.returns
 returns c =
-    none _ _ _ _ c.best_path_verdict-verdict.ensures c.if-verdict-ne-NONE.false c.column_of-column.type_inv.1.0.1
-    c.column_of-column.ensures _ c.if-s-d.false (sym c.known.ensures ∙ c.if-known.false)
+    none _ _ _ c.in_ok-check_best_path.ensures c.column_of-column.type_inv.1.0.1 c.column_of-column.ensures _
+    (eqb-false _ _ (sym c.eq.ensures ∙ c.if-eq.false)) (sym c.known.ensures ∙ c.if-known.false)

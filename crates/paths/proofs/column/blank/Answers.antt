@@ -1,24 +1,46 @@
-use mathlib.Core.Path.{sym, ap, ◌∙◌}
+use Prim.Native.Nat.{◌≤◌, ◌<◌}
+use mathlib.Core.Path.{◌≡◌, sym, ap, ◌∙◌}
 use mathlib.Core.Logic.{inl, inr}
 use native.Mathlib.Omega.{arith}
-use lib.ListN.{set}
-use Rattle.paths.proofs.Steps.{stored, blank_begin, blank_done, blank_on}
+use lib.ListN.{length, set, drop}
+use Rattle.std.proofs.lemmas.List.{set-get_or, length-take-le, take-append-drop, get_or_append_left, length-append}
+use Rattle.net.specs.Limits.{most_nodes}
+use Rattle.net.specs.inner.LinkSet.{meeting}
+use Rattle.paths.specs.declared.cost.Cost.{Cost}
+use Rattle.paths.proofs.Columns.{told_changed, told_still, blanked_kept}
+use Rattle.paths.proofs.Steps.{stored_front, blank_begin, blank_done, blank_on}
 use Rattle.paths.proofs.column.blank.Goals.{then-meets, else-meets}
 use Rattle.paths.proofs.column.blank.Goals as goal
 
-pub loop-i-init : goal.loop-i-init
-loop-i-init c = (c.well_formed.0.1.0.1, blank_begin c.args.n c.args.out c.args.column)
+pub loop-cost-init : goal.loop-cost-init
+loop-cost-init c = rw (take-append-drop c.args.n c.args.column) (blank_begin c.args.n c.args.out c.args.column)
 
-pub loop-i-preserved : goal.loop-i-preserved
-loop-i-preserved c =
-    let at = c.loop-i in
-    let step = stored
+pub loop-cost-preserved : goal.loop-cost-preserved
+loop-cost-preserved c =
+    let at = c.loop-cost in
+    let rest = drop c.args.n c.args.column in
+    let wide : length c.args.column ≡ most_nodes = c.well_formed.0.1.0.1 in
+    let long = length-take-le c.args.n c.args.column (omega arith) in
+    let place : at.cost-index < length at.cost-items = omega (arith, at.auto.cost-items, c.loop-cost-test.true) in
+    let step = stored_front {items = at.cost-items} {changed = at.changed} rest place
     (elim c.if-meets.branch [
-      | then-meets w ↦ inl (w.if-meets.true, w.next-is ∙ ap (set at.next at.i) w.no_cost.ensures, w.changed-is)
-      | else-meets w ↦ inr (w.if-meets.false, w.next-is, w.changed-is)
+      | then-meets w ↦ inl (w.if-meets.true, w.cost-items-is ∙ ap (set at.cost-items at.cost-index) w.none.ensures, w.changed-is)
+      | else-meets w ↦ inr (w.if-meets.false, w.cost-items-is ∙ set-get_or at.cost-items at.cost-index _, w.changed-is)
     ]) in
-    let on = blank_on _ _ at.i _ c.loop-i-test.true (omega arith) _ c.meets.ensures step in
-    (step.as_long ∙ at.invariant.0, at.invariant.1 ∙ on)
+    at.invariant
+    ∙ blank_on _ _ at.cost-index _ (omega (arith, long)) (simp length-append (omega arith)) _
+    (c.meets.ensures ∙ ap (λ (cost : Cost). meeting cost.links c.args.out) (sym (get_or_append_left at.cost-items rest _ at.cost-index place))) step
+
+pub returns-then-not-changed : goal.returns-then-not-changed
+returns-then-not-changed c =
+    let wide : length c.args.column ≡ most_nodes = c.well_formed.0.1.0.1 in
+    let long = length-take-le c.args.n c.args.column (omega arith) in
+    let done : c.args.n ≤ c.loop-cost.cost-index = omega (arith, long, c.loop-cost-test.false) in
+    told_still (blanked_kept _ _ _) (c.loop-cost.invariant ∙ blank_done _ _ c.loop-cost.cost-index _ done) c.if-not-changed.true
 
 pub returns : goal.returns
-returns c = let at = c.loop-i in sym (at.invariant.1 ∙ blank_done _ _ at.i _ c.loop-i-test.false)
+returns c =
+    let wide : length c.args.column ≡ most_nodes = c.well_formed.0.1.0.1 in
+    let long = length-take-le c.args.n c.args.column (omega arith) in
+    let done : c.args.n ≤ c.loop-cost.cost-index = omega (arith, long, c.loop-cost-test.false) in
+    told_changed (blanked_kept _ _ _) (c.loop-cost.invariant ∙ blank_done _ _ c.loop-cost.cost-index _ done) c.if-not-changed.false

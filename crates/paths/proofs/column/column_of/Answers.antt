@@ -4,5 +4,5 @@ use Rattle.paths.proofs.column.column_of.Goals as goal
 
 pub returns : goal.returns
 returns c =
-    rw (c.settle.ensures, c.empty.ensures, c.start-given.ensures)
+    rw (c.settle.ensures, c.empty.ensures, c.start.ensures)
     (start_best c.requires)

@@ -20,7 +20,7 @@ loop-k-preserved c =
     at.invariant
     ∙ offering_on _ _ _ _ _ at.k _ h (omega arith) (omega arith) _ c.makes_offers.ensures
     (elim c.if-makes_offers.branch [
-      | then-makes_offers w ↦ inl (w.if-makes_offers.true, w.offering-is ∙ w.with_link-more.ensures)
+      | then-makes_offers w ↦ inl (w.if-makes_offers.true, w.offering-is ∙ w.with_link-offering.ensures)
       | else-makes_offers w ↦ inr (w.if-makes_offers.false, w.offering-is)
     ])
 

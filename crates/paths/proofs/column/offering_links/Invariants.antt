@@ -2,12 +2,12 @@
 -- the column.
 use Prim.Native.Nat.{◌-◌}
 use mathlib.Core.Path.{◌≡◌}
+use lib.ListN.{length}
+use Rattle.net.specs.Lent.{rows_lent}
 use Rattle.paths.specs.inner.Rounds.{offering_from, offering_links}
 use Rattle.paths.proofs.column.offering_links.Given as goal
 
 abbrev pub invariant-loop-k : goal.invariant-loop-k
 invariant-loop-k l =
-    offering_links l.low l.high l.out l.given ≡ offering_from (l.links - l.k) l.low l.high l.out l.given l.k l.offering
-
-abbrev pub decreases-loop-k : goal.decreases-loop-k
-decreases-loop-k l = l.links - l.k
+    let R = rows_lent l.network in
+    offering_links R.low R.high l.out l.given ≡ offering_from (length R.low - l.k) R.low R.high l.out l.given l.k l.offering

@@ -1,12 +1,12 @@
 use Prim.Native.Nat.{ℕ, ◌<◌}
-use mathlib.Core.Path.{◌≡◌, sym, ap, ◌∙◌}
+use mathlib.Core.Path.{◌≡◌, ap, ◌∙◌}
 use mathlib.Core.Bool.{Bool}
 use mathlib.Core.Logic.{inl, inr}
 use native.Mathlib.Omega.{arith}
 use lib.ListN.{length, get_or}
 use Rattle.paths.specs.inner.Rounds.{turn_of}
-use Rattle.paths.specs.declared.column.Revised.{Revised}
-use Rattle.paths.proofs.Columns.{turn_below}
+use Rattle.paths.specs.inner.Rounds.{Revised}
+use Rattle.paths.proofs.Columns.{turn_below, round_kept, told_changed, told_still}
 use Rattle.paths.proofs.Steps.{stored, link_offered, round_begin, round_done, round_skip, round_on}
 use Rattle.paths.proofs.column.round.Goals.{then-comes_before, else-comes_before, then-has_link+then-comes_before-2, then-has_link+else-comes_before-2, else-has_link}
 use Rattle.paths.proofs.column.round.Goals as goal
@@ -19,45 +19,12 @@ pub loop-j-init : goal.loop-j-init
 loop-j-init c =
     (c.well_formed.0.1.0.1, round_begin _ _ _ _ _ c.args.column)
 
-pub bounds-low-k : goal.bounds-low-k
-bounds-low-k c = in_rows _ _ _ _ c.loop-j-test.true c.turn_of-k.ensures
-
-pub bounds-high-k : goal.bounds-high-k
-bounds-high-k c = omega (arith, in_rows _ _ _ _ c.loop-j-test.true c.turn_of-k.ensures)
-
-pub offset_bounds-weight-k : goal.offset_bounds-weight-k
-offset_bounds-weight-k c = omega (arith, in_rows _ _ _ _ c.loop-j-test.true c.turn_of-k.ensures)
-
-pub bounds-weight-k : goal.bounds-weight-k
-bounds-weight-k c = omega (arith, in_rows _ _ _ _ c.loop-j-test.true c.turn_of-k.ensures)
-
-pub overflow_mul-k : goal.overflow_mul-k
-overflow_mul-k c = omega (arith, in_rows _ _ _ _ c.loop-j-test.true c.turn_of-k.ensures)
-
-pub overflow_cast-k : goal.overflow_cast-k
-overflow_cast-k c = omega (arith, in_rows _ _ _ _ c.loop-j-test.true c.turn_of-k.ensures)
-
-pub extend-to_low-requires : goal.extend-to_low-requires
-extend-to_low-requires c = omega (arith, in_rows _ _ _ _ c.loop-j-test.true c.turn_of-k.ensures)
-
-pub overflow_mul-k-then-has_link : goal.overflow_mul-k-then-has_link
-overflow_mul-k-then-has_link c = omega (arith, in_rows _ _ _ _ c.loop-j-test.true c.turn_of-k.ensures)
-
-pub overflow_add-k : goal.overflow_add-k
-overflow_add-k c = omega (arith, in_rows _ _ _ _ c.loop-j-test.true c.turn_of-k.ensures)
-
-pub overflow_cast-k-then-has_link : goal.overflow_cast-k-then-has_link
-overflow_cast-k-then-has_link c = omega (arith, in_rows _ _ _ _ c.loop-j-test.true c.turn_of-k.ensures)
-
-pub extend-to_high-requires : goal.extend-to_high-requires
-extend-to_high-requires c = omega (arith, in_rows _ _ _ _ c.loop-j-test.true c.turn_of-k.ensures)
-
 pub loop-j-preserved : goal.loop-j-preserved
 loop-j-preserved c =
     let args = c.args in
-    let low = args.low.now in
-    let high = args.high.now in
-    let weight = args.weight.now in
+    let low = args.network.now.low.now in
+    let high = args.network.now.high.now in
+    let weight = args.network.now.weight.now in
     let at = c.loop-j in
     let s : Revised = record { column = at.next; changed = at.changed } in
     let k = c.turn_of-k.result in
@@ -91,7 +58,12 @@ loop-j-preserved c =
           (ap length w.next-is ∙ at.invariant.0, rw (w.next-is, w.changed-is) (at.invariant.1 ∙ skip))
     ]
 
+pub returns-then-not-changed : goal.returns-then-not-changed
+returns-then-not-changed c =
+    let at = c.loop-j in
+    told_still (round_kept _ _ _ _ _ _) (at.invariant.1 ∙ round_done _ _ _ _ _ at.j _ c.loop-j-test.false) c.if-not-changed.true
+
 pub returns : goal.returns
 returns c =
     let at = c.loop-j in
-    sym (at.invariant.1 ∙ round_done _ _ _ _ _ at.j _ c.loop-j-test.false)
+    told_changed (round_kept _ _ _ _ _ _) (at.invariant.1 ∙ round_done _ _ _ _ _ at.j _ c.loop-j-test.false) c.if-not-changed.false

@@ -3,15 +3,14 @@
 use Prim.Native.Nat.{◌-◌}
 use mathlib.Core.Path.{◌≡◌}
 use lib.ListN.{length}
+use Rattle.net.specs.Lent.{rows_lent}
 use Rattle.net.specs.Limits.{most_nodes}
 use Rattle.paths.specs.inner.Rounds.{round_from, round_of}
 use Rattle.paths.proofs.column.round.Given as goal
 
 abbrev pub invariant-loop-j : goal.invariant-loop-j
 invariant-loop-j l =
+    let R = rows_lent l.network in
     (length l.next ≡ most_nodes)
-    × (round_of l.low l.high l.weight l.offering l.upward l.initial.next
-    ≡ round_from (l.links - l.j) l.low l.high l.weight l.offering l.upward l.j (record { column = l.next; changed = l.changed }))
-
-abbrev pub decreases-loop-j : goal.decreases-loop-j
-decreases-loop-j l = l.links - l.j
+    × (round_of R.low R.high R.weight l.offering l.upward l.initial.next
+    ≡ round_from (length R.low - l.j) R.low R.high R.weight l.offering l.upward l.j (record { column = l.next; changed = l.changed }))

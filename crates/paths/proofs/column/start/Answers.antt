@@ -6,4 +6,4 @@ use Rattle.paths.proofs.column.start.Goals as goal
 
 pub returns : goal.returns
 unfolding start_column
-returns c = λ t. set (replicate most_nodes (c.no_cost-unknown.ensures t)) c.args.d (c.here_cost.ensures t)
+returns c = λ t. set (replicate most_nodes (c.none-unknown.ensures t)) c.args.destination.0 (c.here.ensures t)

@@ -1,5 +1,5 @@
 -- `costs_of` stores one cost a turn: the costs passed are those of the square.
-use Prim.Native.Nat.{ℕ, ◌-◌, ◌<◌}
+use Prim.Native.Nat.{ℕ, ◌<◌}
 use mathlib.Core.Path.{◌≡◌}
 use lib.ListN.{length}
 use Rattle.net.specs.Limits.{most_nodes}
@@ -10,6 +10,3 @@ use Rattle.paths.proofs.square.costs_of.Given as goal
 abbrev pub invariant-loop-d : goal.invariant-loop-d
 invariant-loop-d l =
     (length l.costs ≡ most_nodes) × ((e : ℕ) → e < l.d → entry_at l.costs e ≡ cell l.square l.i e)
-
-abbrev pub decreases-loop-d : goal.decreases-loop-d
-decreases-loop-d l = l.n - l.d

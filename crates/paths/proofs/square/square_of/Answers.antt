@@ -16,8 +16,8 @@ loop-d-init c = (
 pub loop-d-preserved : goal.loop-d-preserved
 loop-d-preserved c =
     let at = c.loop-d in
-    let column = c.column_of-column.result in (
+    let column = c.column_of.result in (
       length-set at.square at.d column ∙ at.invariant.0,
       below_more _ _ (λ e h. rw (column_kept at.square at.d column e (λ q. omega arith)) (at.invariant.1 e h))
-          (rw (column_replaced at.square at.d column (omega arith)) c.column_of-column.ensures),
+          (rw (column_replaced at.square at.d column (omega arith)) c.column_of.ensures),
     )

@@ -1,22 +1,41 @@
-use mathlib.Core.Path.{◌∙◌}
+use Prim.Native.Nat.{◌<◌}
+use mathlib.Core.Path.{◌≡◌, ◌∙◌}
+use mathlib.Core.List.{[]}
 use native.Mathlib.Omega.{arith}
 use borrow.Author.Count.{below_more}
-use lib.ListN.{length-set}
+use lib.ListN.{length, drop}
+use Rattle.std.proofs.lemmas.List.{length-take-le, get_or-take, get_or_append_left}
+use Rattle.net.specs.Limits.{most_nodes}
 use Rattle.net.proofs.Accepted.{well_formed}
 use Rattle.paths.specs.inner.Square.{column_for}
 use Rattle.paths.proofs.ColumnEntry.{restarted_from_all}
 use Rattle.paths.proofs.Steps.{column_replaced, column_kept}
 use Rattle.paths.proofs.square.square_without.Goals as goal
 
-pub loop-d-preserved : goal.loop-d-preserved
+pub loop-column-preserved : goal.loop-column-preserved
 unfolding column_for
-loop-d-preserved c =
-    let at = c.loop-d in
-    let column = c.column_without-after.result in (
-      length-set at.next at.d column ∙ at.invariant.0,
-      λ e h. column_kept at.next at.d column e (λ q. omega arith) ∙ at.invariant.1 e (omega arith),
-      λ best. below_more _ _ (λ e h. rw (column_kept at.next at.d column e (λ q. omega arith)) (at.invariant.2 best e h))
-          (rw (column_replaced at.next at.d column (omega arith))
-          (restarted_from_all _ (well_formed _ c.requires) _ c.column_without-after.ensures c.loop-d-test.true
-          (rw (at.invariant.1 at.d (omega arith)) (best at.d c.loop-d-test.true)))),
+loop-column-preserved c =
+    let at = c.loop-column in
+    let d = at.column-index in
+    let column = c.column_without.result in
+    let wide : length c.args.square ≡ most_nodes = c.well_formed.0.1.0.1 in
+    let long = length-take-le c.args.network.now.nodes c.args.square (omega (arith, c.requires.few_nodes)) in
+    let node : d < c.args.network.now.nodes = omega (arith, long, c.loop-column-test.true) in (
+      λ e h. column_kept at.column-items d column e (λ q. omega arith) ∙ at.invariant.0 e (omega arith),
+      λ best. below_more _ _ (λ e h. rw (column_kept at.column-items d column e (λ q. omega arith)) (at.invariant.1 best e h))
+          (rw (column_replaced at.column-items d column (omega arith))
+          (restarted_from_all _ (well_formed _ c.requires) _ c.column_without.ensures node
+          (rw (at.invariant.0 d (omega arith)) (best d node)))),
     )
+
+pub returns : goal.returns
+unfolding column_for
+returns c =
+    let at = c.loop-column in
+    let n = c.args.network.now.nodes in
+    let square = c.args.square in
+    let wide : length square ≡ most_nodes = c.well_formed.0.1.0.1 in
+    let long = length-take-le n square (omega (arith, c.requires.few_nodes)) in
+    λ best d node.
+    rw (get_or_append_left at.column-items (drop n square) [] d (omega arith))
+    (at.invariant.1 (λ e h. rw (get_or-take n square e [] h) (best e h)) d (omega arith))

@@ -26,16 +26,18 @@ groups-preserved c =
     }
 
 pub returns-then-left-eq0 : goal.returns-then-left-eq0
-returns-then-left-eq0 c = sym (c.groups.invariant.rest ∙ groups.no_groups_left _ _ _ _ _ _ c.if-left-eq0.true)
+returns-then-left-eq0 c = rw c.at.ensures (sym (c.groups.invariant.rest ∙ groups.no_groups_left _ _ _ _ _ _ c.if-left-eq0.true))
 
 pub returns-then-s-at : goal.returns-then-s-at
-returns-then-s-at c = sym (c.groups.invariant.rest ∙ groups.bytes_end_there _ _ _ _ _ _ c.if-left-eq0.false c.if-s-at.true)
+returns-then-s-at c =
+    rw c.at-then-s-at.ensures (sym (c.groups.invariant.rest ∙ groups.bytes_end_there _ _ _ _ _ _ c.if-left-eq0.false c.if-s-at.true))
 
 pub returns-then-first-at : goal.returns-then-first-at
 returns-then-first-at c =
-    sym (c.groups.invariant.rest
+    rw c.at-then-first-at.ensures
+    (sym (c.groups.invariant.rest
     ∙ groups.zero_group_last _ _ _ _ _ _ c.if-left-eq0.false c.if-s-at.false c.if-group-eq0.true
-    c.if-first-at.true)
+    c.if-first-at.true))
 
 pub returns-else-group-eq0 : goal.returns-else-group-eq0
 returns-else-group-eq0 c =

@@ -3,13 +3,13 @@ use Prim.Native.Nat.{ℕ, ◌+◌, ◌≤◌, ◌<◌}
 use mathlib.Core.Path.{◌≡◌, refl, ap}
 use native.Mathlib.Nat.{sub-zero}
 use native.Mathlib.Omega.{arith}
-use lib.ListN.{length, get_or}
+use lib.ListN.{length}
 use Rattle.net.specs.Rows.{Rows}
-use Rattle.net.specs.Check.{Accepted}
+use Rattle.net.specs.Check.{span_at, Accepted}
+use Rattle.net.specs.declared.check.Span.{Span}
 use Rattle.plan.specs.Number.{stored}
 use Rattle.plan.specs.Plan.{link_bytes, link_bytes_at, plan_of, longest}
-use Rattle.plan.proofs.Lengths.{few_counted, plan_short, length_plan, length_links_on, links_done}
-use Rattle.plan.proofs.Storing.{link_storable}
+use Rattle.plan.proofs.Lengths.{plan_short, length_plan, length_links_on, links_done}
 use Rattle.plan.proofs.writer.plan_length.Invariants.{Counted}
 use Rattle.plan.proofs.writer.plan_length.Goals as goal
 
@@ -18,11 +18,9 @@ none_counted : {R : Rows} {nodes links : ℕ} → Accepted R → nodes ≡ lengt
 none_counted {R} network nodes_is links_is = record { network = network; all = refl; sum = rw sub-zero (omega (arith, length_plan R)) }
 
 module _ {R : Rows} {links count k : ℕ} (at : Counted R links count k) where
-  open R use {low, high, weight}
-
-  one_counted : {l h size : ℕ} → k < links → l ≡ get_or low k 0 → h ≡ get_or high k 0 → size ≡ length (link_bytes l h (get_or weight k 0))
+  one_counted : {link : Span} {size : ℕ} → k < links → link ≡ span_at R k → size ≡ length (link_bytes link.low link.high link.weight)
       → Counted R links (count + size) (k + 1)
-  one_counted {size} more low_is high_is size_is =
+  one_counted {size} more link_is size_is =
       let is : size ≡ length (link_bytes_at R k) = cc in
       record { network = at.network; all = at.all; sum = omega (arith, at.sum, length_links_on R links k more) }
 
@@ -33,27 +31,18 @@ module _ {R : Rows} {links count k : ℕ} (at : Counted R links count k) where
   all_counted : links ≤ k → count ≡ length (plan_of R)
   all_counted done = omega (arith, at.sum, ap length (links_done R links k done))
 
-pub overflow_add-count : goal.overflow_add-count
-overflow_add-count c = omega (arith, few_counted _ _ c.stored_length.ensures, few_counted _ _ c.stored_length-2.ensures)
-
 pub loop-k-init : goal.loop-k-init
 loop-k-init c =
     none_counted c.requires c.stored_length.ensures c.stored_length-2.ensures
 
-pub link_length-count-requires : goal.link_length-count-requires
-link_length-count-requires c =
-    rw (c.end_at.ensures, c.end_at-in-loop-k.ensures)
-    (link_storable c.loop-k.invariant.network c.loop-k.k c.loop-k-test.true)
-
 pub loop-k-preserved : goal.loop-k-preserved
 loop-k-preserved c =
-    one_counted c.loop-k.invariant c.loop-k-test.true c.end_at.ensures c.end_at-in-loop-k.ensures
-    c.link_length-count.ensures
+    one_counted c.loop-k.invariant c.loop-k-test.true c.span_at.ensures c.link_length-count.ensures
 
 pub overflow_add-count-in-loop-k : goal.overflow_add-count-in-loop-k
 overflow_add-count-in-loop-k c =
     let counted =
-    one_counted c.loop-k.invariant c.loop-k-test.true c.end_at.ensures c.end_at-in-loop-k.ensures c.link_length-count.ensures in
+    one_counted c.loop-k.invariant c.loop-k-test.true c.span_at.ensures c.link_length-count.ensures in
     omega (arith, short counted)
 
 pub returns : goal.returns

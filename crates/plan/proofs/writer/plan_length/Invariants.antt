@@ -4,6 +4,7 @@ use Prim.Native.Nat.{ℕ, ◌+◌, ◌-◌}
 use mathlib.Core.Path.{◌≡◌}
 use lib.ListN.{length}
 use Rattle.net.specs.Rows.{Rows}
+use Rattle.net.specs.Lent.{rows_lent}
 use Rattle.net.specs.Check.{Accepted}
 use Rattle.plan.specs.Plan.{links_bytes, plan_of}
 use Rattle.plan.proofs.writer.plan_length.Given as goal
@@ -15,7 +16,4 @@ pub record Counted (R : Rows) (links count k : ℕ) : Type 0 where
   pub sum : length (plan_of R) ≡ count + length (links_bytes (links - k) R k)
 
 abbrev pub invariant-loop-k : goal.invariant-loop-k
-invariant-loop-k l = Counted (record { nodes = l.n; low = l.low; high = l.high; weight = l.weight }) l.links l.count l.k
-
-abbrev pub decreases-loop-k : goal.decreases-loop-k
-decreases-loop-k l = l.links - l.k
+invariant-loop-k l = Counted (rows_lent l.network) l.links l.count l.k

@@ -4,9 +4,10 @@ use mathlib.Core.Path.{◌≡◌, refl, sym, ap, ◌∙◌}
 use mathlib.Core.List.{List, ◌++◌}
 use native.Mathlib.Nat.{sub-zero}
 use native.Mathlib.Omega.{arith}
-use lib.ListN.{length, get_or}
+use lib.ListN.{length}
 use Rattle.net.specs.Rows.{Rows}
-use Rattle.net.specs.Check.{Accepted}
+use Rattle.net.specs.Check.{span_at, Accepted}
+use Rattle.net.specs.declared.check.Span.{Span}
 use Rattle.net.specs.inner.Overwritten.{overwritten}
 use Rattle.net.proofs.Overwrite.{over_none, over_parts}
 use Rattle.plan.specs.Plan.{link_bytes, link_bytes_at, links_bytes}
@@ -18,32 +19,30 @@ use Rattle.plan.proofs.writer.put_plan.Invariants.{Begun}
 use Rattle.plan.proofs.writer.put_plan.Goals as goal
 
 module _ {R : Rows} {links first : ℕ} {room₀ room : List ℕ} {at k : ℕ} (so_far : Begun R links first room₀ room at k) where
-  open R use {low, high, weight}
-
-  module _ {l h : ℕ} (more : k < links) (low_is : l ≡ get_or low k 0) (high_is : h ≡ get_or high k 0) where
-    link_fits : LinkFits l h (get_or weight k 0) at room
+  module _ {link : Span} (more : k < links) (link_is : link ≡ span_at R k) where
+    link_fits : LinkFits link.low link.high link.weight at room
     link_fits =
-        rw (low_is, high_is)
+        rw link_is
         (record {
           storable = link_storable so_far.network k (rw so_far.all at more);
           fits = omega (arith, so_far.fits, length_links_on R links k more);
         })
 
-    one_put : {room' : List ℕ} {next : ℕ} → Put (link_bytes l h (get_or weight k 0)) at room room' next
+    one_put : {room' : List ℕ} {next : ℕ} → Put (link_bytes link.low link.high link.weight) at room room' next
         → Begun R links first room₀ room' next (k + 1)
     one_put {room'} put =
         let rest = links_bytes (links - (k + 1)) R (k + 1) in
         let on = links_on R links k more in
-        let link : Put (link_bytes_at R k) at room _ _ = rw (low_is, high_is) at put in
+        let put_there : Put (link_bytes_at R k) at room _ _ = rw link_is at put in
         let fits : at + length (link_bytes_at R k ++ rest) ≤ length room = rw on at so_far.fits in
         let as_long : length room' ≡ length room = kept put link_fits.fits in
         record {
           network = so_far.network;
           all = so_far.all;
           same_length = as_long ∙ so_far.same_length;
-          fits = omega (arith, so_far.fits, link.place, length_links_on R links k more);
+          fits = omega (arith, so_far.fits, put_there.place, length_links_on R links k more);
           same_room =
-              rw (link.room, link.place)
+              rw (put_there.room, put_there.place)
               (sym (over_parts room at (link_bytes_at R k) rest fits) ∙ ap (overwritten room at) (sym on) ∙ so_far.same_room);
         }
 
@@ -68,11 +67,11 @@ loop-k-init c =
 
 pub put_link-at-requires : goal.put_link-at-requires
 put_link-at-requires c =
-    link_fits c.loop-k.invariant c.loop-k-test.true c.end_at.ensures c.end_at-in-loop-k.ensures
+    link_fits c.loop-k.invariant c.loop-k-test.true c.span_at.ensures
 
 pub loop-k-preserved : goal.loop-k-preserved
 loop-k-preserved c =
-    one_put c.loop-k.invariant c.loop-k-test.true c.end_at.ensures c.end_at-in-loop-k.ensures
+    one_put c.loop-k.invariant c.loop-k-test.true c.span_at.ensures
     c.put_link-at.ensures
 
 pub returns : goal.returns

@@ -5,6 +5,7 @@ use mathlib.Core.Path.{◌≡◌}
 use mathlib.Core.List.{List}
 use lib.ListN.{length}
 use Rattle.net.specs.Rows.{Rows}
+use Rattle.net.specs.Lent.{rows_lent}
 use Rattle.net.specs.Check.{Accepted}
 use Rattle.net.specs.inner.Overwritten.{overwritten}
 use Rattle.plan.specs.Plan.{links_bytes}
@@ -20,7 +21,4 @@ pub record Begun (R : Rows) (links first : ℕ) (room₀ room : List ℕ) (at k 
 
 abbrev pub invariant-loop-k : goal.invariant-loop-k
 invariant-loop-k l =
-    Begun (record { nodes = l.n; low = l.low; high = l.high; weight = l.weight }) l.links l.initial.at l.initial.room l.room l.at l.k
-
-abbrev pub decreases-loop-k : goal.decreases-loop-k
-decreases-loop-k l = l.links - l.k
+    Begun (rows_lent l.network) l.links l.initial.at l.initial.room l.room l.at l.k

@@ -1,10 +1,12 @@
 -- All walks of a failure: the sources below s are counted, each with every destination, and `line_from` adds those of s.
-use Prim.Native.Nat.{ℕ, suc, ◌≤◌, ◌-◌}
+use Prim.Native.Nat.{ℕ, suc}
 use mathlib.Core.Path.{◌≡◌}
 use mathlib.Core.List.{List}
 use lib.ListN.{length}
 use Rattle.graph.specs.Walk.{Course}
 use Rattle.net.specs.Limits.{report_hops}
+use Rattle.net.specs.Lent.{rows_lent}
+use Rattle.tables.specs.Lent.{tables_lent}
 use Rattle.report.specs.inner.Counting.{course_at}
 use Rattle.report.specs.declared.counting.Line.{Line}
 use Rattle.report.proofs.Walks.{sources_below}
@@ -12,16 +14,9 @@ use Rattle.report.proofs.counting.line_of.Given as goal
 
 -- the walks of the sources below s have been counted
 pub record Below (n : ℕ) (course : ℕ → ℕ → Course) (trace : List ℕ) (line : Line) (s : ℕ) : Type 0 where
-  pub nodes : s ≤ n
   pub room : length trace ≡ suc report_hops
   pub sums : line ≡ sources_below s n course
 
 abbrev pub invariant-loop-s : goal.invariant-loop-s
 invariant-loop-s l =
-    Below l.n
-    (course_at (record { nodes = l.n; low = l.low; high = l.high; weight = l.weight })
-    (record { routing = l.routing; forwarding = l.forwarding; backwarding = l.backwarding }) l.failure)
-    l.trace l.line l.s
-
-abbrev pub decreases-loop-s : goal.decreases-loop-s
-decreases-loop-s l = l.n - l.s
+    Below l.network.nodes (course_at (rows_lent l.network) (tables_lent l.tables) l.failure) l.trace l.line l.s

@@ -1,13 +1,18 @@
--- One verdict and one branch. Where nothing is refused, network and tables are as the walks ask, and the lines are those of the failures.
-use mathlib.Core.Path.{◌∙◌}
+-- One check and one branch. Where nothing is refused, network and tables are as the walks ask, and the lines are those of the failures.
+use mathlib.Core.Path.{refl, ap, ◌∙◌}
+use Rattle.net.proofs.Told.{number_refuses}
+use Rattle.walk.proofs.Told.{handed}
+use Rattle.report.specs.Lines.{lines_told}
 use Rattle.report.proofs.Answers.{ready, lines_refused_lem, lines_made}
 use Rattle.report.proofs.totals.all_lines.Goals as goal
 
-pub returns-then-verdict-ne-NONE : goal.returns-then-verdict-ne-NONE
-returns-then-verdict-ne-NONE c = c.refused.ensures ∙ lines_refused_lem _ _ c.lent_verdict-verdict.ensures c.if-verdict-ne-NONE.true
+pub returns-in_err-check_lent : goal.returns-in_err-check_lent
+returns-in_err-check_lent c =
+    ap lines_told (handed _ _ c.from_residual.ensures.1)
+    ∙ lines_refused_lem _ _ c.in_err-check_lent.ensures (number_refuses c.in_err-check_lent.field-0.0.refusal)
 
 pub lines_of-requires : goal.lines_of-requires
-lines_of-requires c = ready _ _ _ c.lent_verdict-verdict.ensures c.if-verdict-ne-NONE.false
+lines_of-requires c = ready _ _ _ c.in_ok-check_lent.ensures refl
 
 pub returns : goal.returns
-returns c = c.lines_of.ensures ∙ lines_made _ _ c.lent_verdict-verdict.ensures c.if-verdict-ne-NONE.false
+returns c = c.lines_of.ensures ∙ lines_made _ _ c.in_ok-check_lent.ensures refl

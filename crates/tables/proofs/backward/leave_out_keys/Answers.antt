@@ -8,11 +8,11 @@ use Rattle.tables.proofs.backward.leave_out_keys.Goals as goal
 pub leave_out-requires : goal.leave_out-requires
 unfolding column_for kept_for
 leave_out-requires c =
-    destination_given c.requires c.loop-d-test.true c.loop-d.invariant.1
+    destination_given c.requires c.loop-d-test.true c.loop-d.invariant
 
 pub loop-d-preserved : goal.loop-d-preserved
 loop-d-preserved c =
-    (omega arith, destinations_more c.loop-d-test.true c.loop-d.invariant.1 c.leave_out.ensures)
+    destinations_more c.loop-d-test.true c.loop-d.invariant c.leave_out.ensures
 
 pub returns : goal.returns
-returns c = destinations_done (omega arith) c.loop-d.invariant.1
+returns c = destinations_done (omega arith) c.loop-d.invariant

@@ -2,13 +2,13 @@
 -- so that each table is filled as its own functions promise: the backwarding table first as if no interface had key links, then without
 -- them.
 use Prim.Native.Nat.{ℕ, ◌*◌, ◌≤◌}
-use mathlib.Core.Path.{◌≡◌}
+use mathlib.Core.Path.{◌≡◌, refl}
 use mathlib.Core.List.{List}
 use lib.ListN.{length}
 use Rattle.graph.specs.Path.{All}
 use Rattle.net.specs.Rows.{Rows, network_of}
 use Rattle.net.specs.Refusals.{accepted}
-use Rattle.net.specs.declared.check.Verdict.{Verdict}
+use Rattle.net.specs.Verdict.{Verdict}
 use Rattle.paths.specs.inner.Square.{BestSquare}
 use Rattle.paths.specs.declared.cost.Cost.{Cost}
 use Rattle.tables.specs.Lent.{LentTables}
@@ -36,19 +36,19 @@ module _ (R : Rows) (T : LentTables) {v : Verdict} (is : v ≡ build_verdict R T
   for_backwarding = with_room (2 * length R.low) T.backwarding (build_room R T is free).for_backwarding
 
 pub square_of-all-requires : goal.square_of-all-requires
-square_of-all-requires c = build_accepted _ _ c.build_verdict-verdict.ensures c.if-verdict-ne-NONE.false
+square_of-all-requires c = build_accepted _ _ c.in_ok-check_build.ensures refl
 
 pub fill_routing-requires : goal.fill_routing-requires
-fill_routing-requires c = for_routing _ _ c.build_verdict-verdict.ensures c.if-verdict-ne-NONE.false c.square_of-all.ensures
+fill_routing-requires c = for_routing _ _ c.in_ok-check_build.ensures refl c.square_of-all.ensures
 
 pub fill_without_own-kept-requires : goal.fill_without_own-kept-requires
 fill_without_own-kept-requires c =
-    for_backwarding _ _ c.build_verdict-verdict.ensures c.if-verdict-ne-NONE.false c.square_of-all.ensures
+    for_backwarding _ _ c.in_ok-check_build.ensures refl c.square_of-all.ensures
 
 pub leave_out_keys-requires : goal.leave_out_keys-requires
 leave_out_keys-requires c =
     let own = c.fill_without_own-kept.ensures in
-    let filling = for_backwarding _ _ c.build_verdict-verdict.ensures c.if-verdict-ne-NONE.false c.square_of-all.ensures in
+    let filling = for_backwarding _ _ c.in_ok-check_build.ensures refl c.square_of-all.ensures in
     record {
       given = record {
         filling = record { network = filling.network; room = rw own.filled.same_length filling.room; square = filling.square };
@@ -60,6 +60,6 @@ leave_out_keys-requires c =
 pub fill_forwarding-requires : goal.fill_forwarding-requires
 fill_forwarding-requires c =
     record {
-      filling = for_forwarding _ _ c.build_verdict-verdict.ensures c.if-verdict-ne-NONE.false c.square_of-all.ensures;
+      filling = for_forwarding _ _ c.in_ok-check_build.ensures refl c.square_of-all.ensures;
       keeps = c.fill_without_own-kept.ensures.square_kept;
     }

@@ -11,7 +11,8 @@ use Rattle.net.proofs.Accepted.{well_formed}
 use Rattle.net.proofs.Rows.{interface_present, head_of_lem}
 use Rattle.paths.specs.inner.Square.{column_for}
 use Rattle.paths.specs.declared.cost.Cost.{Cost}
-use Rattle.tables.specs.inner.Detours.{forward_cost, kept_for}
+use Rattle.paths.proofs.Turning.{turned_costs}
+use Rattle.tables.specs.inner.Detours.{forward_cost, kept_for, kept_at, nothing_kept}
 use Rattle.tables.specs.inner.Given.{FillingByKept}
 use Rattle.tables.specs.declared.kept.Kept.{Kept}
 use Rattle.tables.proofs.RowBytes.{forwarding_row}
@@ -49,32 +50,29 @@ offset_bounds-rows-i c = omega (arith, entered_place c.requires c.loop-h.h (omeg
 pub bounds-rows-i : goal.bounds-rows-i
 bounds-rows-i c = omega (arith, entered_place c.requires c.loop-h.h (omega arith) c.head_of-i.ensures)
 
-pub offset_bounds-turned-i : goal.offset_bounds-turned-i
-offset_bounds-turned-i c = omega (arith, entered_place c.requires c.loop-h.h (omega arith) c.head_of-i.ensures)
+pub offset_bounds-found-i : goal.offset_bounds-found-i
+offset_bounds-found-i c = omega (arith, entered_place c.requires c.loop-h.h (omega arith) c.head_of-i.ensures)
 
-pub bounds-turned-i : goal.bounds-turned-i
-bounds-turned-i c = omega (arith, entered_place c.requires c.loop-h.h (omega arith) c.head_of-i.ensures)
+pub bounds-found-i : goal.bounds-found-i
+bounds-found-i c = omega (arith, entered_place c.requires c.loop-h.h (omega arith) c.head_of-i.ensures)
 
 pub slice_bounds-fill_row-end : goal.slice_bounds-fill_row-end
 slice_bounds-fill_row-end c = omega (arith, row_end c.requires c.loop-h.h (omega arith))
 
 pub loop-h-preserved : goal.loop-h-preserved
-unfolding column_for kept_for
+unfolding column_for kept_for kept_at
 loop-h-preserved c =
     let given = c.requires in
     let at = c.loop-h in
-    let interface : at.h < 2 * length c.args.low.now = omega arith in
+    let interface : at.h < 2 * length c.args.network.now.low.now = omega arith in
     let i = c.head_of-i.result.0 in
     let is = c.head_of-i.ensures in
-    let node = entered given at.h interface is in (
-      at.invariant.0,
-      omega arith,
-      filled_row at.invariant.2 refl (row_end given at.h interface) _ c.forward_costs-costs.result
-          (forwarding_row _ given.filling.network _ c.forward_costs-costs.result c.args.all c.args.kept
-          given.filling.square given.keeps at.h (present given at.h interface) (enters given at.h interface is)
-          (λ d destination.
-          c.forward_costs-costs.ensures d destination
-          ∙ ap₂ (forward_cost at.h) (c.by_node-rows.ensures i d node destination)
-          (c.kept_by_node-turned.ensures i d node destination)))
-          c.fill_row.ensures,
-    )
+    let node = entered given at.h interface is in
+    filled_row at.invariant refl (row_end given at.h interface) _ c.forward_costs-costs.result
+    (forwarding_row _ given.filling.network _ c.forward_costs-costs.result c.args.all c.args.kept
+    given.filling.square given.keeps at.h (present given at.h interface) (enters given at.h interface is)
+    (λ d destination.
+    c.forward_costs-costs.ensures d destination
+    ∙ ap₂ (forward_cost at.h) (turned_costs _ _ _ c.turned-rows.ensures i d node destination)
+    (c.turned-found.ensures nothing_kept i d node destination)))
+    c.fill_row.ensures

@@ -3,6 +3,7 @@ use mathlib.Core.Path.{refl}
 use native.Mathlib.Omega.{arith}
 use lib.ListN.{length}
 use Rattle.paths.specs.inner.Square.{column_for}
+use Rattle.paths.proofs.Turning.{turned_costs}
 use Rattle.tables.proofs.RowBytes.{routing_row}
 use Rattle.tables.proofs.Building.{row_room, filled_row}
 use Rattle.tables.proofs.build.fill_routing.Goals as goal
@@ -11,13 +12,11 @@ pub loop-i-preserved : goal.loop-i-preserved
 unfolding column_for
 loop-i-preserved c =
     let at = c.loop-i in
-    let n = c.args.n in
+    let n = c.args.network.now.nodes in
     let room : at.i * n + n ≤ length c.args.table.now = row_room {rows = n} n at.i c.loop-i-test.true c.requires.room in
-    let rows = c.by_node-rows in
-    let costs = column_for rows.result at.i in (
-      omega arith,
-      filled_row at.invariant.1 refl room at.i costs
-          (routing_row _ c.requires.network at.i costs c.args.all c.requires.square (omega arith)
-          (λ d. rows.ensures at.i d (omega arith)))
-          c.fill_row.ensures,
-    )
+    let rows = c.turned-rows in
+    let costs = column_for rows.result at.i in
+    filled_row at.invariant refl room at.i costs
+    (routing_row _ c.requires.network at.i costs c.args.all c.requires.square (omega arith)
+    (λ d. turned_costs _ _ _ rows.ensures at.i d (omega arith)))
+    c.fill_row.ensures

@@ -27,7 +27,7 @@ without_best {R} network without is_empty is_only best d destination =
 
 pub loop-k-init : goal.loop-k-init
 loop-k-init c =
-    (refl, omega arith, filled_start _, rw c.none_kept-kept.ensures (kept_start _ c.requires.network.few_nodes c.args.all))
+    (filled_start _, rw c.none_kept-kept.ensures (kept_start _ c.requires.network.few_nodes c.args.all))
 
 pub note_link-next-requires : goal.note_link-next-requires
 note_link-next-requires c =
@@ -38,24 +38,24 @@ note_link-next-requires c =
       square = given.square;
       square_without =
           without_best given.network _ c.empty.ensures c.with_link-only.ensures (c.square_without-without.ensures given.square);
-      keeps = c.loop-k.invariant.3;
+      keeps = c.loop-k.invariant.1;
     }
 
 pub loop-k-preserved : goal.loop-k-preserved
 loop-k-preserved c =
     let at = c.loop-k in
-    let n = c.args.n in
+    let n = c.args.network.now.nodes in
     let network = c.requires.network in
     let without = c.square_without-without.result in
-    let number : at.k < length c.args.low.now = omega arith in
+    let number : at.k < length c.args.network.now.low.now = omega arith in
     let room : 2 * at.k * n + n + n ≤ length c.args.table.now =
-    rw (next_row (2 * at.k) n) (row_room {rows = 2 * length c.args.low.now} n (2 * at.k + 1) (omega arith) c.requires.room) in
+    rw (next_row (2 * at.k) n) (row_room {rows = 2 * length c.args.network.now.low.now} n (2 * at.k + 1) (omega arith) c.requires.room) in
     let best = without_best network _ c.empty.ensures c.with_link-only.ensures (c.square_without-without.ensures c.requires.square) in
-    let first = filled_row at.invariant.2 refl (omega arith) _ c.costs_of-from_low.result
-    (own_row_from_low _ network _ c.costs_of-from_low.result without number best c.costs_of-from_low.ensures c.end_at-x.ensures)
+    let first = filled_row at.invariant.0 refl (omega arith) _ c.costs_of.result
+    (own_row_from_low _ network _ c.costs_of.result without number best c.costs_of.ensures c.end_at-x.ensures)
     c.fill_row.ensures in
-    let second = filled_row first (next_row (2 * at.k) n) room _ c.costs_of-from_high.result
-    (own_row_from_high _ network _ c.costs_of-from_high.result without number best c.costs_of-from_high.ensures c.end_at-y.ensures)
+    let second = filled_row first (next_row (2 * at.k) n) room _ c.costs_of-in-loop-k.result
+    (own_row_from_high _ network _ c.costs_of-in-loop-k.result without number best c.costs_of-in-loop-k.ensures c.end_at-y.ensures)
     c.fill_row-in-loop-k.ensures in
     let rows : 2 * (at.k + 1) ≡ 2 * at.k + 1 + 1 = omega arith in
-    (at.invariant.0, omega arith, rw rows second, rw add-one c.note_link-next.ensures)
+    (rw rows second, rw add-one c.note_link-next.ensures)

@@ -12,10 +12,9 @@ pub loop-d-preserved : goal.loop-d-preserved
 unfolding entry_at
 loop-d-preserved c =
     let at = c.loop-d in (
-      omega arith,
-      length-set at.costs at.d c.forward_cost.result ∙ at.invariant.1,
+      length-set at.costs at.d c.forward_cost.result ∙ at.invariant.0,
       below_more _ _
-          (λ e h. get_or-set_other at.costs at.d e _ no_cost (λ q. omega arith) ∙ at.invariant.2 e h)
+          (λ e h. get_or-set_other at.costs at.d e _ no_cost (λ q. omega arith) ∙ at.invariant.1 e h)
           (get_or-set_same at.costs at.d _ no_cost (omega arith)
           ∙ forward_read _ at.d c.args.all c.args.kept (omega arith) (omega arith) _ _ c.forward_cost.ensures),
     )

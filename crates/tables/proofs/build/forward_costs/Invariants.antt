@@ -1,5 +1,5 @@
 -- `forward_costs` stores one cost a turn: the costs passed are those to forward by.
-use Prim.Native.Nat.{ℕ, ◌≤◌, ◌<◌, ◌-◌}
+use Prim.Native.Nat.{ℕ, ◌<◌}
 use mathlib.Core.Path.{◌≡◌}
 use lib.ListN.{length}
 use Rattle.net.specs.Limits.{most_nodes}
@@ -9,8 +9,5 @@ use Rattle.tables.proofs.build.forward_costs.Given as goal
 
 abbrev pub invariant-loop-d : goal.invariant-loop-d
 invariant-loop-d l =
-    (l.d ≤ l.n) × (length l.costs ≡ most_nodes)
+    (length l.costs ≡ most_nodes)
     × ((e : ℕ) → e < l.d → entry_at l.costs e ≡ forward_cost l.h.0 (entry_at l.all e) (kept_at l.kept e))
-
-abbrev pub decreases-loop-d : goal.decreases-loop-d
-decreases-loop-d l = l.n - l.d

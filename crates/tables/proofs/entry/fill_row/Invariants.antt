@@ -1,5 +1,4 @@
 -- `fill_row` writes the bytes of `entry_row` in order: the whole row of entries is what is written before d and the rest from d on.
-use Prim.Native.Nat.{◌≤◌, ◌-◌}
 use mathlib.Core.Path.{◌≡◌}
 use lib.ListN.{length}
 use Rattle.tables.specs.inner.EntryRow.{entry_row}
@@ -8,7 +7,4 @@ use Rattle.tables.proofs.entry.fill_row.Given as goal
 
 abbrev pub invariant-loop-d : goal.invariant-loop-d
 invariant-loop-d l =
-    (l.d ≤ l.n) × (length l.row ≡ l.n) × (entry_row l.n l.i 0 l.costs ≡ written_to l.n l.i l.costs l.row l.d)
-
-abbrev pub decreases-loop-d : goal.decreases-loop-d
-decreases-loop-d l = l.n - l.d
+    entry_row (length l.row) l.i.0 0 l.costs ≡ written_to (length l.row) l.i.0 l.costs l.row l.d

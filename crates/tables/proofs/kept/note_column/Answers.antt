@@ -17,15 +17,13 @@ bounds-without-j c =
 pub loop-i-preserved : goal.loop-i-preserved
 loop-i-preserved c =
     let at = c.loop-i in
-    let test = sym c.crosses_link.ensures in (
-      omega arith,
-      elim c.if-crosses_link.branch [
-        | then-crosses_link w ↦
-            rw w.next-is
-            (noted_crossed c.requires (omega arith) at.i c.loop-i-test.true _ (test ∙ w.if-crosses_link.true) at.invariant.1
-            (omega arith) _ w.head_of-j.ensures c.end_at.ensures c.end_at-2.ensures w.noted.ensures)
-        | else-crosses_link w ↦
-            rw w.next-is
-            (noted_uncrossed c.requires (omega arith) at.i c.loop-i-test.true _ at.invariant.1 (test ∙ w.if-crosses_link.false))
-      ],
-    )
+    let test = sym c.crosses_link.ensures in
+    elim c.if-crosses_link.branch [
+      | then-crosses_link w ↦
+          rw w.next-is
+          (noted_crossed c.requires (omega arith) at.i c.loop-i-test.true _ (test ∙ w.if-crosses_link.true) at.invariant
+          (omega arith) _ w.head_of-j.ensures c.end_at.ensures c.end_at-2.ensures w.noted.ensures)
+      | else-crosses_link w ↦
+          rw w.next-is
+          (noted_uncrossed c.requires (omega arith) at.i c.loop-i-test.true _ at.invariant (test ∙ w.if-crosses_link.false))
+    ]

@@ -8,9 +8,9 @@ use Rattle.paths.specs.inner.Square.{column_for}
 use Rattle.tables.specs.inner.Detours.{kept_for}
 use Rattle.tables.proofs.kept.note_link.Goals as goal
 
-pub note_column-new-requires : goal.note_column-new-requires
+pub note_column-requires : goal.note_column-requires
 unfolding column_for kept_for
-note_column-new-requires c =
+note_column-requires c =
     let at = c.loop-d in
     let given = c.requires in
     let destination = c.loop-d-test.true in
@@ -26,9 +26,9 @@ pub loop-d-preserved : goal.loop-d-preserved
 unfolding column_for kept_for
 loop-d-preserved c =
     let at = c.loop-d in
-    let column = c.note_column-new.result in (
+    let column = c.note_column.result in (
       length-set at.next at.d column ∙ at.invariant.0,
       λ e h. get_or-set_other at.next at.d e column [] (λ q. omega arith) ∙ at.invariant.1 e (omega arith),
       below_more _ _ (λ e h. rw (get_or-set_other at.next at.d e column [] (λ q. omega arith)) (at.invariant.2 e h))
-          (rw (get_or-set_same at.next at.d column [] (omega arith)) c.note_column-new.ensures),
+          (rw (get_or-set_same at.next at.d column [] (omega arith)) c.note_column.ensures),
     )

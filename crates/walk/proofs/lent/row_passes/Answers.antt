@@ -1,12 +1,10 @@
 -- A byte's answer makes the bytes passed one more, or the row's answer.
 use mathlib.Core.Path.{sym, ◌∙◌}
-use native.Mathlib.Omega.{arith}
-use borrow.Author.Rules.{rules}
 use Rattle.walk.proofs.Below.{row_is, below_none, below_one_more, below_fails, below_all}
 use Rattle.walk.proofs.lent.row_passes.Goals as goal
 
 pub loop-d-init : goal.loop-d-init
-loop-d-init c = record { within = search rules; so_far = below_none _ }
+loop-d-init c = below_none _
 
 pub returns-then-not-byte_passes : goal.returns-then-not-byte_passes
 returns-then-not-byte_passes c =
@@ -15,12 +13,9 @@ returns-then-not-byte_passes c =
 
 pub loop-d-preserved : goal.loop-d-preserved
 loop-d-preserved c =
-    record {
-      within = omega arith;
-      so_far = below_one_more _ _ c.loop-d.invariant.so_far (sym c.byte_passes.ensures ∙ c.if-not-byte_passes.false);
-    }
+    below_one_more _ _ c.loop-d.invariant (sym c.byte_passes.ensures ∙ c.if-not-byte_passes.false)
 
 pub returns : goal.returns
 returns c =
     let at = c.loop-d in
-    sym (row_is _ _ _ _ ∙ below_all _ _ _ at.invariant.within c.loop-d-test.false at.invariant.so_far)
+    sym (row_is _ _ _ _ ∙ below_all _ _ _ at.auto.d-end c.loop-d-test.false at.invariant)

@@ -10,5 +10,4 @@ use Rattle.walk.proofs.moves.walk_from.Goals as goal
 pub returns : goal.returns
 unfolding course_from course_of lost_ending tables_for walk_of
 returns c =
-    went_from _ c.args.source.0 c.args.trace.now (omega (arith, c.requires.room))
-    (c.forwarding_move.ensures (record { weight = c.args.weight.now; routing = c.args.routing.now; ready = c.requires.ready }))
+    went_from _ c.args.source.0 c.args.trace.now (omega (arith, c.requires.room)) c.forwarding_move.ensures

@@ -1,7 +1,7 @@
 -- One verdict and one branch. Where nothing is refused, the step is made at the start node with its routing entry, or at the head of the
 -- interface entered with its forwarding entry.
 use Prim.Native.Nat.{ℕ, ◌+◌, ◌*◌, ◌^◌, ◌<◌, ◌≤◌}
-use mathlib.Core.Path.{◌≡◌, sym, ap, ◌∙◌}
+use mathlib.Core.Path.{◌≡◌, refl, sym, ap, ◌∙◌}
 use native.Mathlib.Omega.{arith}
 use lib.ListN.{length}
 use mir.Syntax.{w64}
@@ -11,20 +11,22 @@ use Rattle.net.specs.declared.interface.Node.{Node}
 use Rattle.net.specs.Refusals.{accepted}
 use Rattle.net.specs.Rows.{Rows, head_of}
 use Rattle.net.specs.Check.{Accepted}
+use Rattle.net.proofs.Told.{number_refuses}
 use Rattle.net.proofs.Rows.{head_of_lem}
 use Rattle.tables.specs.Lent.{LentTables, LongEnough}
 use Rattle.walk.specs.Lent.{lent_verdict}
-use Rattle.walk.specs.Step.{step_number, step_of, step_answer}
-use Rattle.walk.specs.inner.Ground.{Ground}
+use Rattle.walk.specs.Step.{step_number, step_of, stepped_told, step_answer}
+use Rattle.walk.specs.inner.Reading.{Ready}
 use Rattle.walk.specs.inner.Steps.{Placed}
 use Rattle.walk.specs.declared.question.Question.{Question}
 use Rattle.walk.specs.declared.steps.Asked.{Asked}
 use Rattle.walk.specs.declared.steps.Asked.TheVariants.{Start, Arrival}
-use Rattle.net.specs.declared.check.Verdict.{Verdict}
+use Rattle.net.specs.Verdict.{Verdict}
 use Rattle.walk.proofs.Asking.{asked_destination, asked_start, asked_arrival}
 use Rattle.walk.proofs.Below.{row_within}
 use Rattle.walk.proofs.Grounds.{row_fits, place_fits, place_within, forwarding_row, enters_node}
 use Rattle.walk.proofs.Stepping.{start_steps, arrival_steps}
+use Rattle.walk.proofs.Told.{handed}
 use Rattle.walk.proofs.Verdicts.{lent_network, lent_long, question_taken, step_refused, step_taken}
 use Rattle.walk.proofs.steps.step.Goals as goal
 
@@ -45,9 +47,8 @@ module _ (R : Rows) (T : LentTables) (asked : Asked) (question : Question) {verd
   long : LongEnough R.nodes (length R.low) T
   long = lent_long R T number judged free
 
-  -- what the step is lent belongs to this network and these tables
-  abbrev ground : Ground R.nodes R.low R.high T.forwarding T.backwarding
-  ground = record { weight = R.weight; routing = T.routing; ready = record { network = network; long = long } }
+  ready : Ready R T
+  ready = record { network = network; long = long }
 
   -- asked at a start node, whose row is in the routing table
   module _ {node : Node} (is : asked ≡ Start node) where
@@ -61,8 +62,8 @@ module _ (R : Rows) (T : LentTables) (asked : Asked) (question : Question) {verd
     routing_within = place_within _ _ _ _ start_row destination
 
     -- the step at the start node may be asked
-    placed_start : Placed R.nodes R.low R.high T.forwarding T.backwarding question node.0
-    placed_start = record { ground = ground; destination = destination; node = node_below }
+    placed_start : Placed R T question node.0
+    placed_start = record { ready = ready; destination = destination; node = node_below }
 
     module _ (table : length T.routing < 2 ^ 64) where
       routing_row_fits : Fits w64 (node.0 * R.nodes)
@@ -77,19 +78,19 @@ module _ (R : Rows) (T : LentTables) (asked : Asked) (question : Question) {verd
     interface_below = asked_arrival _ _ _ question taken _ is
 
     arrival_row : h.0 * R.nodes + R.nodes ≤ length T.forwarding
-    arrival_row = forwarding_row ground h.0 interface_below
+    arrival_row = forwarding_row ready h.0 interface_below
 
     forwarding_within : h.0 * R.nodes + question.destination.0 < length T.forwarding
     forwarding_within = place_within _ _ _ _ arrival_row destination
 
     -- the step at the head of the interface may be asked
     placed_arrival : {i : ℕ} → i ≡ head_of R.low R.high h.0
-        → Placed R.nodes R.low R.high T.forwarding T.backwarding question i
+        → Placed R T question i
     placed_arrival told =
         record {
-          ground = ground;
+          ready = ready;
           destination = destination;
-          node = rw (told ∙ sym (head_of_lem R h.0)) (enters_node ground h.0 interface_below);
+          node = rw (told ∙ sym (head_of_lem R h.0)) (enters_node ready h.0 interface_below);
         }
 
     module _ (table : length T.forwarding < 2 ^ 64) where
@@ -103,50 +104,45 @@ module _ (R : Rows) (T : LentTables) (asked : Asked) (question : Question) {verd
   step_made : step_of R T asked question ≡ step_answer R T asked question
   step_made = step_taken R T asked question (judged ∙ ap (lent_verdict R T) numbered) free
 
-pub returns-then-verdict-ne-NONE : goal.returns-then-verdict-ne-NONE
-returns-then-verdict-ne-NONE c =
-    step_refused _ _ _ _ (c.lent_verdict-verdict.ensures ∙ ap (lent_verdict _ _) c.step_number-number.ensures) c.if-verdict-ne-NONE.true
+pub returns-in_err-check_lent : goal.returns-in_err-check_lent
+returns-in_err-check_lent c =
+    ap stepped_told (handed _ _ c.from_residual.ensures.1)
+    ∙ step_refused _ _ _ _ (c.in_err-check_lent.ensures ∙ ap (lent_verdict _ _) c.check_step.ensures)
+    (number_refuses c.in_err-check_lent.field-0.0.refusal)
 
 pub overflow_mul-i : goal.overflow_mul-i
-overflow_mul-i c =
-    routing_row_fits _ _ _ _ c.lent_verdict-verdict.ensures c.step_number-number.ensures c.if-verdict-ne-NONE.false c.in-Start.is (omega arith)
+overflow_mul-i c = routing_row_fits _ _ _ _ c.in_ok-check_lent.ensures c.check_step.ensures refl c.in-Start.is (omega arith)
 
 pub overflow_add-i : goal.overflow_add-i
-overflow_add-i c =
-    routing_place_fits _ _ _ _ c.lent_verdict-verdict.ensures c.step_number-number.ensures c.if-verdict-ne-NONE.false c.in-Start.is (omega arith)
+overflow_add-i c = routing_place_fits _ _ _ _ c.in_ok-check_lent.ensures c.check_step.ensures refl c.in-Start.is (omega arith)
 
-pub bounds-routing-i : goal.bounds-routing-i
-bounds-routing-i c =
-    routing_within _ _ _ _ c.lent_verdict-verdict.ensures c.step_number-number.ensures c.if-verdict-ne-NONE.false c.in-Start.is
+pub bounds-tables-i : goal.bounds-tables-i
+bounds-tables-i c = routing_within _ _ _ _ c.in_ok-check_lent.ensures c.check_step.ensures refl c.in-Start.is
 
 pub step_at-requires : goal.step_at-requires
-step_at-requires c =
-    placed_start _ _ _ _ c.lent_verdict-verdict.ensures c.step_number-number.ensures c.if-verdict-ne-NONE.false c.in-Start.is
+step_at-requires c = placed_start _ _ _ _ c.in_ok-check_lent.ensures c.check_step.ensures refl c.in-Start.is
 
 pub overflow_mul-h : goal.overflow_mul-h
-overflow_mul-h c =
-    forwarding_row_fits _ _ _ _ c.lent_verdict-verdict.ensures c.step_number-number.ensures c.if-verdict-ne-NONE.false c.in-Arrival.is (omega arith)
+overflow_mul-h c = forwarding_row_fits _ _ _ _ c.in_ok-check_lent.ensures c.check_step.ensures refl c.in-Arrival.is (omega arith)
 
 pub overflow_add-h : goal.overflow_add-h
-overflow_add-h c =
-    forwarding_place_fits _ _ _ _ c.lent_verdict-verdict.ensures c.step_number-number.ensures c.if-verdict-ne-NONE.false c.in-Arrival.is (omega arith)
+overflow_add-h c = forwarding_place_fits _ _ _ _ c.in_ok-check_lent.ensures c.check_step.ensures refl c.in-Arrival.is (omega arith)
 
-pub bounds-forwarding-h : goal.bounds-forwarding-h
-bounds-forwarding-h c =
-    forwarding_within _ _ _ _ c.lent_verdict-verdict.ensures c.step_number-number.ensures c.if-verdict-ne-NONE.false c.in-Arrival.is
+pub bounds-tables-h : goal.bounds-tables-h
+bounds-tables-h c = forwarding_within _ _ _ _ c.in_ok-check_lent.ensures c.check_step.ensures refl c.in-Arrival.is
 
 pub step_at-requires-in-Arrival : goal.step_at-requires-in-Arrival
 step_at-requires-in-Arrival c =
-    placed_arrival _ _ _ _ c.lent_verdict-verdict.ensures c.step_number-number.ensures c.if-verdict-ne-NONE.false c.in-Arrival.is c.head_of.ensures
+    placed_arrival _ _ _ _ c.in_ok-check_lent.ensures c.check_step.ensures refl c.in-Arrival.is c.head_of.ensures
 
 pub returns-in-Start : goal.returns-in-Start
 returns-in-Start c =
-    c.step_at.ensures (ground _ _ _ _ c.lent_verdict-verdict.ensures c.step_number-number.ensures c.if-verdict-ne-NONE.false)
+    c.step_at.ensures
     ∙ start_steps _ _ _ _ _ c.in-Start.is
-    ∙ step_made _ _ _ _ c.lent_verdict-verdict.ensures c.step_number-number.ensures c.if-verdict-ne-NONE.false
+    ∙ step_made _ _ _ _ c.in_ok-check_lent.ensures c.check_step.ensures refl
 
 pub returns-in-Arrival : goal.returns-in-Arrival
 returns-in-Arrival c =
-    c.step_at-in-Arrival.ensures (ground _ _ _ _ c.lent_verdict-verdict.ensures c.step_number-number.ensures c.if-verdict-ne-NONE.false)
+    c.step_at-in-Arrival.ensures
     ∙ arrival_steps _ _ _ _ _ _ c.in-Arrival.is (c.head_of.ensures ∙ sym (head_of_lem _ c.in-Arrival.h.0))
-    ∙ step_made _ _ _ _ c.lent_verdict-verdict.ensures c.step_number-number.ensures c.if-verdict-ne-NONE.false
+    ∙ step_made _ _ _ _ c.in_ok-check_lent.ensures c.check_step.ensures refl
