@@ -17,13 +17,15 @@ pub const VISITED: usize = 256;
 // The longest lent trace, in the same way.
 pub const TRACE: usize = VISITED + SPARE;
 
+// One byte; 0 where the input ends, where `read_head` answers none.
 pub fn read_byte<R: Read>(input: &mut R) -> io::Result<u8> {
     let mut bytes = [0u8; 1];
     read(input, &mut bytes)?;
     Ok(bytes[0])
 }
 
-// A lent table: so many bytes from the start. The programs have no heap, so an array has room for the longest, and its length stands beside.
+// A lent table: so many bytes from the start. The programs have no heap, so an array has room for the longest, and its length stands
+// beside.
 #[derive(Clone, Copy)]
 pub struct Table {
     pub length: usize,

@@ -21,7 +21,7 @@ use text::{
     read_number,
 };
 use walk::{Stepped, Walked};
-use walks::all_walks;
+use walks::{all_walks, ended};
 
 // The tables of networks of at most so many nodes are told in full, others by their hash alone.
 const IN_FULL: usize = 6;
@@ -150,10 +150,7 @@ fn print_walk<W: Write>(
 ) -> io::Result<()> {
     write!(out, "walk ")?;
     print_told(out, &answer)?;
-    let (ending, hops) = match answer {
-        Ok(walked) => (walked.ending.number(), walked.hops),
-        Err(_) => (0, 0),
-    };
+    let (ending, hops) = ended(answer);
     write!(out, " ending {ending} hops {hops} trace ")?;
     hex(out, trace)
 }
@@ -182,6 +179,7 @@ fn walk_line<R: Read, W: Write>(input: &mut R, out: &mut W) -> io::Result<()> {
 fn all_line<R: Read, W: Write>(input: &mut R, out: &mut W) -> io::Result<()> {
     let rows = read_network(input)?;
     let network = rows.lent();
+    // No heap: the arrays stand with whoever lends them, here as in nightplan's `lines_of`.
     let mut routing = [0u8; limit::PAIRS];
     let mut forwarding = [0u8; 2 * limit::LINKS * limit::NODES];
     let mut backwarding = [0u8; 2 * limit::LINKS * limit::NODES];
@@ -241,6 +239,7 @@ fn answer<R: Read, W: Write>(
     Ok(ControlFlow::Continue(()))
 }
 
+// Each program has a `main` of its own: standard input, standard output, and what it does with them.
 fn main(rt: HostRuntime) -> io::Result<()> {
     let mut input = rt.stdin();
     let mut out = rt.stdout();

@@ -2,10 +2,19 @@
 use crate::batch::{HOPS, VISITED};
 use crate::hash;
 use crate::hash::{hash_byte, hash_bytes};
-use net::{Failure, LentRows, Link, Node};
+use net::{Failure, LentRows, Link, Node, PlacedRefusal};
 use std::num::wrapping_add_usize;
 use tables::Tables;
 use text::front;
+use walk::Walked;
+
+// Ending and hops of a walk as a batch tells them: "a refused answer has 0 in every other figure" (compare/FORMAT.md).
+pub fn ended(answer: Result<Walked, PlacedRefusal>) -> (u8, usize) {
+    match answer {
+        Ok(walked) => (walked.ending.number(), walked.hops),
+        Err(_) => (0, 0),
+    }
+}
 
 fn one_walk(
     sum: u64,
@@ -25,10 +34,7 @@ fn one_walk(
         HOPS,
         &mut trace,
     );
-    let (ending, hops) = match walked {
-        Ok(walked) => (walked.ending.number(), walked.hops),
-        Err(_) => (0, 0),
-    };
+    let (ending, hops) = ended(walked);
     let ended = hash_byte(sum, ending);
     let counted = hash_byte(ended, (hops % 256) as u8);
     hash_bytes(counted, front(&trace, wrapping_add_usize(hops, 1)))

@@ -34,6 +34,7 @@ fn print_written<W: Write>(out: &mut W, network: &LentRows<'_>) -> io::Result<()
     hex(out, front(&room, count))?;
     let mut small = [0u8; PLAN];
     let shorter = front_room(&mut small, count.saturating_sub(1));
+    // As in `row_line` of answers, of an error of another type.
     let number = match plan::write_plan(network, shorter) {
         Ok(_) => 0,
         Err(refused) => refused.refusal.number(),
@@ -111,6 +112,7 @@ fn answer<R: Read, W: Write>(
     }
 }
 
+// Each program has a `main` of its own: standard input, standard output, and what it does with them.
 fn main(rt: HostRuntime) -> io::Result<()> {
     let mut input = rt.stdin();
     let mut out = rt.stdout();

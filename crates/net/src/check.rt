@@ -56,6 +56,7 @@ fn bad_ends(n: usize, low: usize, high: usize) -> bool
     n <= low || high <= low || n <= high
 }
 
+// Of the node count; `bad_weight` is the like of a weight, each under its own sentence of document 01.
 #[tactic(auto, using(std::proofs::lemmas::Bool::Decides::nat_tests), unfolding(crate::specs::Check::bad_node_count))]
 pub fn bad_node_count(n: usize) -> bool
     ensures { result ≡ bad_node_count n }

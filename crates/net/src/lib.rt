@@ -3,6 +3,7 @@
 #![tactic(auto)]
 
 mod check;
+mod checked;
 pub mod entry;
 mod failure;
 mod interface;
@@ -14,6 +15,7 @@ mod refusal;
 pub use check::{
     ORIGIN, Span, bad_node_count, bad_weight, check_network, descends, end_at, lighter_twin,
 };
+pub use checked::CheckedRows;
 pub use failure::{Failure, blocked, check_failure, fails};
 pub use interface::{Interface, Link, Node, link_of, reverse_of};
 pub use lent_rows::{LentRows, Network};

@@ -46,7 +46,7 @@ fn print_lines<W: Write>(out: &mut W, network: &LentRows<'_>, answer: &Lines) ->
     )
 }
 
-// All lines over the tables that are built for the network.
+// All lines over the tables that are built for the network. No heap: the arrays stand with whoever lends them.
 fn lines_of(network: &LentRows<'_>) -> Result<Lines, PlacedRefusal> {
     let mut routing = [0u8; limit::PAIRS];
     let mut forwarding = [0u8; 2 * limit::LINKS * limit::NODES];
@@ -78,6 +78,7 @@ fn report_plan<R: Read, W: Write>(input: &mut R, out: &mut W) -> io::Result<()> 
     }
 }
 
+// Each program has a `main` of its own: standard input, standard output, and what it does with them.
 fn main(rt: HostRuntime) -> io::Result<()> {
     let mut input = rt.stdin();
     let mut out = rt.stdout();

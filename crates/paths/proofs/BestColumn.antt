@@ -29,7 +29,7 @@ use Rattle.net.specs.declared.link_set.LinkSet.{LinkSet}
 use Rattle.net.proofs.Accepted.{well_formed}
 use Rattle.net.proofs.LinkSets.{without?}
 use Rattle.paths.specs.inner.Cost.{no_cost}
-use Rattle.paths.specs.inner.Column.{entry_at, Shows, Shows.none as no_path, BestColumn, OneDestination, Restarted}
+use Rattle.paths.specs.inner.Column.{entry_at, Shows, Shows.none as no_path, BestColumn, Restarted}
 use Rattle.paths.specs.inner.Rounds.{start_column, settled, blanked}
 use Rattle.paths.specs.declared.cost.Cost.{Cost}
 use Rattle.paths.specs.inner.Rounds.{Revised}
@@ -202,12 +202,11 @@ module _ (R : Rows) (A : Accepted R) (out fewer : LinkSet) where
         (restart_still N X d Y (without? out) less D D' finished remaining_blanked
         (λ i. ap (λ (l : List Cost). entry N (entry_at l i)) same))
 
-pub start_best : {R : Rows} {d : ℕ} → OneDestination R d → BestColumn (network_of R) All d (settled R no_links (start_column d))
-start_best {R} {d} t =
-    let A = t.network in
-    let begun = start_begun (network_of R) (Without no_links) d (omega (arith, A.few_nodes, t.destination)) in
+pub start_best : {R : Rows} {d : ℕ} → Accepted R → d < R.nodes → BestColumn (network_of R) All d (settled R no_links (start_column d))
+start_best {R} {d} A destination =
+    let begun = start_begun (network_of R) (Without no_links) d (omega (arith, A.few_nodes, destination)) in
     (column_all_lem (network_of R) (well_formed R A)).1
-    (begun_settled R A no_links d (start_column d) begun t.destination (start_long d))
+    (begun_settled R A no_links d (start_column d) begun destination (start_long d))
 
 pub restarted_settled : {R : Rows} → Accepted R → (out : LinkSet) (column : List Cost) → length column ≡ most_nodes
     → Restarted (network_of R) out column (settled R out (blanked R.nodes out column).column)

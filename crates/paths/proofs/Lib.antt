@@ -1,3 +1,4 @@
+pub mod Counts
 pub mod CostNumber
 pub mod ColumnEntry
 pub mod Offers

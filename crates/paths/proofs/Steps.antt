@@ -13,14 +13,13 @@ use lib.ListN.{length, get_or, set, replicate, length-set}
 use lib.Seq.{get_or-set_same, get_or-set_other}
 use Rattle.net.specs.Limits.{most_nodes}
 use Rattle.net.specs.Choice.{pick}
-use Rattle.net.specs.Check.{Accepted}
 use Rattle.net.specs.Rows.{Rows}
 use Rattle.net.specs.inner.LinkSet.{no_links, with_link, has_link, meeting}
 use Rattle.net.specs.declared.link_set.LinkSet.{LinkSet}
 use Rattle.paths.specs.inner.Cost.{no_cost, before, extended}
 use Rattle.paths.specs.inner.Column.{entry_at}
 use Rattle.paths.specs.inner.Square.{column_for}
-use Rattle.paths.specs.inner.Rounds.{Linked, unrevised, revise, offer, link_offers, makes_offers, offering_from, offering_links}
+use Rattle.paths.specs.inner.Rounds.{unrevised, revise, offer, link_offers, makes_offers, offering_from, offering_links}
 use Rattle.paths.specs.inner.Rounds.{turn_of, round_from, round_of, rounds_from, settled, blank_from, blanked}
 use Rattle.paths.specs.declared.cost.Cost.{Cost}
 use Rattle.paths.specs.inner.Rounds.{Revised}
@@ -34,19 +33,6 @@ one_less m i h = omega arith
 
 one_more : (i : ℕ) → suc i ≡ i + 1
 one_more i = omega arith
-
--- the rows of an accepted network are such as the rounds ask for
-pub linked : {R : Rows} → Accepted R → Linked R.low R.high R.weight
-linked A =
-    record {
-      ends = record {
-        high_row = A.high_row;
-        few_links = A.few_links;
-        low_place = λ k h. omega (arith, A.joins k h, A.few_nodes);
-        high_place = λ k h. omega (arith, A.joins k h, A.few_nodes);
-      };
-      weight_row = A.weight_row;
-    }
 
 -- the links that make offers, those below k looked at, of m in all
 module _ (m : ℕ) (low high : List ℕ) (out : LinkSet) (given : List Cost) (k : ℕ) (links : LinkSet) where

@@ -1,11 +1,11 @@
 // The best path from a source to a destination: weight sum, links and routing entry.
-ghost use Rattle.std.specs.Prelude.{◌≡◌};
+ghost use Rattle.std.specs.Prelude.{◌≡◌, IfOk};
 ghost use Rattle.net.specs.Lent.{rows_lent};
 ghost use Rattle.net.specs.Told.{told};
 ghost use Rattle.paths.specs.Best.{best_path_verdict, best_path_told, BestPathAnswer};
 
 use crate::column::column_of;
-use net::{LentRows, Node, PlacedRefusal, Refusal, check_network, entry};
+use net::{CheckedRows, LentRows, Node, PlacedRefusal, Refusal, entry};
 
 // What the entry answers; where there is no path, weight sum and set are 0.
 #[derive(Clone, Copy)]
@@ -16,21 +16,22 @@ pub struct BestPath {
 }
 
 #[tactic(auto, unfolding(crate::specs::Best::best_path_verdict, net::specs::Check::or_else, net::specs::Check::refused_if))]
-fn check_best_path(
-    network: &LentRows<'_>,
+fn check_best_path<'a>(
+    network: &LentRows<'a>,
     source: Node,
     destination: Node,
-) -> Result<(), PlacedRefusal>
-    ensures { told result ≡ best_path_verdict (rows_lent network.now) source.0 destination.0 }
+) -> Result<CheckedRows<'a>, PlacedRefusal>
+    ensures refusal { told result ≡ best_path_verdict (rows_lent network.now) source.0 destination.0 }
+    ensures same_rows { IfOk result (λ checked. checked.rows ≡ network.now) }
 {
-    check_network(network)?;
+    let checked = network.checked()?;
     if network.nodes <= source.0 {
         return Err(Refusal::NodeNumber.at(0));
     }
     if network.nodes <= destination.0 {
         return Err(Refusal::NodeNumber.at(0));
     }
-    Ok(())
+    Ok(checked)
 }
 
 pub fn best_path(
@@ -40,8 +41,8 @@ pub fn best_path(
 ) -> Result<BestPath, PlacedRefusal>
     ensures { BestPathAnswer (rows_lent network.now) source.0 destination.0 (best_path_told result) }
 {
-    check_best_path(network, source, destination)?;
-    let column = column_of(network, destination);
+    let network = check_best_path(network, source, destination)?;
+    let column = column_of(&network, destination);
     let cost = column[source.0];
     if source == destination {
         return Ok(BestPath {

@@ -3,15 +3,14 @@
 ghost use Rattle.std.specs.Prelude.{◌≡◌, ◌≤◌, ◌<◌};
 ghost use Rattle.graph.specs.Path.{All};
 ghost use Rattle.net.specs.Limits.{most_nodes};
-ghost use Rattle.net.specs.Check.{Accepted};
 ghost use Rattle.net.specs.Lent.{rows_lent};
 ghost use Rattle.net.specs.Rows.{network_of};
-ghost use Rattle.paths.specs.inner.Column.{BestColumn, OneDestination, Restarted};
-ghost use Rattle.paths.specs.inner.Rounds.{Placed, Linked, start_column, makes_offers, offering_links};
+ghost use Rattle.paths.specs.inner.Column.{BestColumn, Restarted};
+ghost use Rattle.paths.specs.inner.Rounds.{start_column, makes_offers, offering_links};
 ghost use Rattle.paths.specs.inner.Rounds.{turn_of, round_of, settled, blanked, revised_told};
 
 use crate::cost::Cost;
-use net::{LentRows, Link, LinkSet, Node, limit};
+use net::{CheckedRows, Link, LinkSet, Node, limit};
 
 // At the start only the destination's own cost is known.
 fn start(destination: Node) -> [Cost; limit::NODES]
@@ -36,14 +35,14 @@ fn makes_offers(out: LinkSet, link: Link, one: Cost, other: Cost) -> bool
 }
 
 // The links that make offers in rounds that begin with the column `given`.
-fn offering_links(given: [Cost; limit::NODES], network: &LentRows<'_>, out: LinkSet) -> LinkSet
-    requires { let R = rows_lent network.now in Placed R.low R.high }
-    ensures { let R = rows_lent network.now in result ≡ offering_links R.low R.high out given }
+#[tactic(auto, using(crate::proofs::Counts::link_places))]
+fn offering_links(given: [Cost; limit::NODES], network: &CheckedRows<'_>, out: LinkSet) -> LinkSet
+    ensures { let R = rows_lent network.now.rows in result ≡ offering_links R.low R.high out given }
 {
     let mut offering = LinkSet::empty();
-    for k in 0..network.low.len() {
-        let x = network.low[k] as usize;
-        let y = network.high[k] as usize;
+    for k in 0..network.rows.low.len() {
+        let x = network.rows.low[k] as usize;
+        let y = network.rows.high[k] as usize;
         if makes_offers(out, Link(k), given[x], given[y]) {
             offering = offering.with_link(Link(k));
         }
@@ -61,27 +60,27 @@ fn turn_of(links: usize, upward: bool, j: usize) -> usize
     if upward { j } else { links - 1 - j }
 }
 
-// One round: each link of the set offers its two ends their ways over it. No answer where none of them stores one.
-#[tactic(auto, using(crate::proofs::Columns::turn_below))]
+// One round: each link of the set offers its two ends their ways over it. No answer where none of them stores one. The two offers are written
+// out, as the edits `far_end_kept` and `up_for_down` each change one and leave the other.
+#[tactic(auto, using(crate::proofs::Columns::turn_below, crate::proofs::Counts::link_places))]
 fn round(
     column: [Cost; limit::NODES],
-    network: &LentRows<'_>,
+    network: &CheckedRows<'_>,
     offering: LinkSet,
     upward: bool,
 ) -> Option<[Cost; limit::NODES]>
-    requires { let R = rows_lent network.now in Linked R.low R.high R.weight }
-    ensures { let R = rows_lent network.now in
+    ensures { let R = rows_lent network.now.rows in
         revised_told column result ≡ round_of R.low R.high R.weight offering upward column }
 {
     let mut next = column;
     let mut changed = false;
-    let links = network.low.len();
+    let links = network.rows.low.len();
     for j in 0..links {
         let k = turn_of(links, upward, j);
         if offering.has_link(Link(k)) {
-            let x = network.low[k] as usize;
-            let y = network.high[k] as usize;
-            let w = network.weight[k];
+            let x = network.rows.low[k] as usize;
+            let y = network.rows.high[k] as usize;
+            let w = network.rows.weight[k];
             let to_low = next[y].extend(w, Link(k), (2 * k) as u8);
             if to_low.comes_before(next[x]) {
                 next[x] = to_low;
@@ -101,14 +100,17 @@ fn round(
 }
 
 // Rounds until one changes nothing; of n nodes, n - 1 are enough.
-fn settle(given: [Cost; limit::NODES], network: &LentRows<'_>, out: LinkSet) -> [Cost; limit::NODES]
-    requires { let R = rows_lent network.now in Linked R.low R.high R.weight }
-    ensures { result ≡ settled (rows_lent network.now) out given }
+fn settle(
+    given: [Cost; limit::NODES],
+    network: &CheckedRows<'_>,
+    out: LinkSet,
+) -> [Cost; limit::NODES]
+    ensures { result ≡ settled (rows_lent network.now.rows) out given }
 {
     let offering = offering_links(given, network, out);
     let mut column = given;
     let mut upward = true;
-    for _ in 1..network.nodes {
+    for _ in 1..network.rows.nodes {
         let Some(next) = round(column, network, offering, upward) else {
             return column;
         };
@@ -138,24 +140,25 @@ fn blank(column: [Cost; limit::NODES], n: usize, out: LinkSet) -> Option<[Cost; 
 }
 
 // The best paths to one destination over all links.
-pub fn column_of(network: &LentRows<'_>, destination: Node) -> [Cost; limit::NODES]
-    requires { OneDestination (rows_lent network.now) destination.0 }
-    ensures { BestColumn (network_of (rows_lent network.now)) All destination.0 result }
+#[tactic(auto, using(crate::proofs::Counts::few_nodes))]
+pub fn column_of(network: &CheckedRows<'_>, destination: Node) -> [Cost; limit::NODES]
+    requires { destination.0 < network.now.rows.nodes }
+    ensures { BestColumn (network_of (rows_lent network.now.rows)) All destination.0 result }
 {
     settle(start(destination), network, LinkSet::empty())
 }
 
 // The best paths without the links of the set, from those without fewer links or none. A column that none of them touches is final as
 // it is.
+#[tactic(auto, using(crate::proofs::Counts::few_nodes))]
 pub fn column_without(
     column: [Cost; limit::NODES],
-    network: &LentRows<'_>,
+    network: &CheckedRows<'_>,
     out: LinkSet,
 ) -> [Cost; limit::NODES]
-    requires { Accepted (rows_lent network.now) }
-    ensures { Restarted (network_of (rows_lent network.now)) out column result }
+    ensures { Restarted (network_of (rows_lent network.now.rows)) out column result }
 {
-    match blank(column, network.nodes, out) {
+    match blank(column, network.rows.nodes, out) {
         Some(given) => settle(given, network, out),
         None => column,
     }

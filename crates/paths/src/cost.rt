@@ -13,12 +13,13 @@ pub struct Cost {
     pub first: u8,
 }
 
-// No path has this weight sum: it says that none is known. An `Option<Cost>` has a tag of its own, 24 bytes in place of 16, and squares of
-// costs are copied (docs/DECISIONS.md, "Speed").
+// No path has this weight sum: it says that none is known. As an `Option<Cost>` it would be no plainer: one comparison tells here that a path is
+// known, and in `extend` that its sum stays below the bound, where an Option takes a match and a test; and a cost would have 24 bytes in place
+// of 16, and squares of costs are copied (docs/DECISIONS.md, "Speed").
 pub const UNKNOWN: u32 = 4294967295;
 
 impl Cost {
-    // No path is known.
+    // No path is known. This cost and the next are two values of the type, each with a definition of its own.
     #[tactic(auto, unfolding(crate::specs::inner::Cost::no_cost))]
     pub fn none() -> Cost
         ensures { result ≡ no_cost }

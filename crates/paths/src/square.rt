@@ -1,7 +1,6 @@
 // The square of costs: an array of arrays, a column for each destination, passed and returned by value.
 ghost use Rattle.std.specs.Prelude.{◌≡◌, ℕ, ◌≤◌, ◌<◌};
 ghost use Rattle.graph.specs.Path.{All};
-ghost use Rattle.net.specs.Check.{Accepted};
 ghost use Rattle.net.specs.Limits.{most_nodes};
 ghost use Rattle.net.specs.Lent.{rows_lent};
 ghost use Rattle.net.specs.Rows.{network_of};
@@ -11,32 +10,33 @@ ghost use Rattle.paths.specs.inner.Square.{cell, BestSquare, OneNode, IsTurned};
 
 use crate::column::{column_of, column_without};
 use crate::cost::Cost;
-use net::{LentRows, LinkSet, Node, limit};
+use net::{CheckedRows, LinkSet, Node, limit};
 
 // The best paths between all pairs.
-pub fn square_of(network: &LentRows<'_>) -> [[Cost; limit::NODES]; limit::NODES]
-    requires { Accepted (rows_lent network.now) }
-    ensures { BestSquare (network_of (rows_lent network.now)) All result }
+#[tactic(auto, using(crate::proofs::Counts::some_node, crate::proofs::Counts::few_nodes))]
+pub fn square_of(network: &CheckedRows<'_>) -> [[Cost; limit::NODES]; limit::NODES]
+    ensures { BestSquare (network_of (rows_lent network.now.rows)) All result }
 {
     let first = column_of(network, Node(0));
     let mut square = [first; limit::NODES];
-    for d in 1..network.nodes {
+    for d in 1..network.rows.nodes {
         square[d] = column_of(network, Node(d));
     }
     square
 }
 
-// The best paths between all pairs without the links of the set, from those over all links.
+// The best paths between all pairs without the links of the set, from those over all links. `note_link` of `tables` goes over columns too, of
+// another type and by another function: a line of each loop is the same.
+#[tactic(auto, using(crate::proofs::Counts::few_nodes))]
 pub fn square_without(
     square: [[Cost; limit::NODES]; limit::NODES],
-    network: &LentRows<'_>,
+    network: &CheckedRows<'_>,
     out: LinkSet,
 ) -> [[Cost; limit::NODES]; limit::NODES]
-    requires { Accepted (rows_lent network.now) }
-    ensures { let N = network_of (rows_lent network.now) in BestSquare N All square → BestSquare N (Without out) result }
+    ensures { let N = network_of (rows_lent network.now.rows) in BestSquare N All square → BestSquare N (Without out) result }
 {
     let mut next = square;
-    for column in &mut next[..network.nodes] {
+    for column in &mut next[..network.rows.nodes] {
         *column = column_without(*column, network, out);
     }
     next

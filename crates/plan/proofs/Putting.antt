@@ -6,11 +6,12 @@ use mathlib.Core.List.{List, ◌++◌}
 use native.Mathlib.Omega.{arith}
 use lib.ListN.{length, length-append}
 use Rattle.net.specs.Rows.{Rows}
+use Rattle.net.specs.Check.{Accepted}
 use Rattle.net.specs.inner.Overwritten.{overwritten}
 use Rattle.net.proofs.Overwrite.{over_three, length_over}
 use Rattle.plan.specs.Number.{stored}
 use Rattle.plan.specs.Plan.{link_bytes, links_bytes, plan_start, plan_of}
-use Rattle.plan.specs.inner.Put.{NumberFits, LinkFits, PlanFits, Put}
+use Rattle.plan.specs.inner.Put.{NumberFits, LinkFits, Put}
 
 -- bytes that fit leave the room as long as it was
 pub kept : {bytes before after : List ℕ} {at next : ℕ} → Put bytes at before after next → at + length bytes ≤ length before
@@ -77,37 +78,37 @@ module _ {low high weight at : ℕ} {room : List ℕ} (link : LinkFits low high 
       link_put = three_put (stored low) difference (stored weight) at room whole_link low_put difference_put
 
 -- a plan's two counts and its links, put at the start of the room
-module _ {R : Rows} {room : List ℕ} (plan : PlanFits R room) where
+abbrev links : Rows → List ℕ
+links R = links_bytes (length R.low) R 0
+
+module _ {R : Rows} (room : List ℕ) (network : Accepted R) (plan_fits : length (plan_of R) ≤ length room) where
   open R use {nodes as n, low}
 
-  abbrev links : List ℕ
-  links = links_bytes (length low) R 0
-
-  whole_plan : 0 + length (stored n ++ (stored (length low) ++ links)) ≤ length room
+  whole_plan : 0 + length (stored n ++ (stored (length low) ++ links R)) ≤ length room
   unfolding plan_of plan_start
-  whole_plan = omega (arith, plan.fits)
+  whole_plan = omega (arith, plan_fits)
 
   pub nodes_fit : NumberFits n 0 room
   nodes_fit =
       record {
-        storable = omega (arith, plan.network);
-        fits = first_fits (stored n) (stored (length low)) links 0 room whole_plan;
+        storable = omega (arith, network);
+        fits = first_fits (stored n) (stored (length low)) (links R) 0 room whole_plan;
       }
 
   module _ {room₁ : List ℕ} {second : ℕ} (nodes_put : Put (stored n) 0 room room₁ second) where
     pub count_fits : NumberFits (length low) second room₁
     count_fits =
         record {
-          storable = omega (arith, plan.network);
-          fits = second_fits (stored n) (stored (length low)) links 0 room whole_plan nodes_put;
+          storable = omega (arith, network);
+          fits = second_fits (stored n) (stored (length low)) (links R) 0 room whole_plan nodes_put;
         }
 
     module _ {room₂ : List ℕ} {third : ℕ} (count_put : Put (stored (length low)) second room₁ room₂ third) where
-      pub links_fit : third + length links ≤ length room₂
-      links_fit = third_fits (stored n) (stored (length low)) links 0 room whole_plan nodes_put count_put
+      pub links_fit : third + length (links R) ≤ length room₂
+      links_fit = third_fits (stored n) (stored (length low)) (links R) 0 room whole_plan nodes_put count_put
 
-      pub plan_put : {room₃ : List ℕ} → room₃ ≡ overwritten room₂ third links → room₃ ≡ overwritten room 0 (plan_of R)
+      pub plan_put : {room₃ : List ℕ} → room₃ ≡ overwritten room₂ third (links R) → room₃ ≡ overwritten room 0 (plan_of R)
       unfolding plan_of plan_start
       plan_put links_put =
-          let three : Put links third room₂ _ _ = record { room = links_put; place = refl } in
-          (three_put (stored n) (stored (length low)) links 0 room whole_plan nodes_put count_put three).room
+          let three : Put (links R) third room₂ _ _ = record { room = links_put; place = refl } in
+          (three_put (stored n) (stored (length low)) (links R) 0 room whole_plan nodes_put count_put three).room

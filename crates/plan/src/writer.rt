@@ -1,17 +1,18 @@
 // The writer: it checks the network, then that the plan fits the room, and only then writes.
-ghost use Rattle.std.specs.Prelude.{◌≡◌, ◌<◌, length};
-ghost use Rattle.net.specs.Check.{span_at, Accepted};
+ghost use Rattle.std.specs.Prelude.{◌≡◌, ◌≤◌, ◌<◌, length};
+ghost use Rattle.net.specs.Check.{span_at};
 ghost use Rattle.net.specs.Lent.{rows_lent};
 ghost use Rattle.net.specs.inner.Overwritten.{overwritten};
 ghost use Rattle.plan.specs.Plan.{link_bytes, plan_of};
 ghost use Rattle.plan.specs.Writer.{write_plan, room_after};
 ghost use Rattle.plan.specs.Told.{written_told};
-ghost use Rattle.plan.specs.inner.Put.{Storable, LinkFits, PlanFits, Put};
+ghost use Rattle.plan.specs.inner.Put.{Storable, LinkFits, Put};
 
 use crate::number::{put_number, stored_length};
-use net::{LentRows, PlacedRefusal, Refusal, Span, check_network, end_at};
+use net::{CheckedRows, LentRows, PlacedRefusal, Refusal, Span, end_at};
 
-// Link k of a network in memory.
+// Link k of a network in memory. It takes the rows, as all that it asks is that k is in the row of weights: with a checked network it
+// would ask the same of the lower ends, and need a proof of its own.
 fn span_at(network: &LentRows<'_>, k: usize) -> Span
     requires { k < length (rows_lent network.now).weight }
     ensures { result ≡ span_at (rows_lent network.now) k }
@@ -34,16 +35,15 @@ fn link_length(link: Span) -> usize
         + stored_length(link.weight as usize)
 }
 
-// How many bytes the plan of an accepted network takes.
+// How many bytes the plan of a network takes.
 #[tactic(auto, using(crate::proofs::Lengths::few_counted, crate::proofs::Storing::link_storable))]
-fn plan_length(network: &LentRows<'_>) -> usize
-    requires { Accepted (rows_lent network.now) }
-    ensures { result ≡ length (plan_of (rows_lent network.now)) }
+fn plan_length(network: &CheckedRows<'_>) -> usize
+    ensures { result ≡ length (plan_of (rows_lent network.now.rows)) }
 {
-    let links = network.low.len();
-    let mut count = stored_length(network.nodes) + stored_length(links);
+    let links = network.rows.low.len();
+    let mut count = stored_length(network.rows.nodes) + stored_length(links);
     for k in 0..links {
-        count += link_length(span_at(network, k));
+        count += link_length(span_at(&network.rows, k));
     }
     count
 }
@@ -58,16 +58,16 @@ fn put_link(room: &mut [u8], at: usize, link: Span) -> usize
     put_number(room, third, link.weight as usize)
 }
 
-// Puts the plan of an accepted network into a room that holds it.
-fn put_plan(network: &LentRows<'_>, room: &mut [u8])
-    requires { PlanFits (rows_lent network.now) room.old }
-    ensures { room.new ≡ overwritten room.old 0 (plan_of (rows_lent network.now)) }
+// Puts the plan of a network into a room that holds it.
+fn put_plan(network: &CheckedRows<'_>, room: &mut [u8])
+    requires { length (plan_of (rows_lent network.now.rows)) ≤ length room.old }
+    ensures { room.new ≡ overwritten room.old 0 (plan_of (rows_lent network.now.rows)) }
 {
-    let links = network.low.len();
-    let second = put_number(room, 0, network.nodes);
+    let links = network.rows.low.len();
+    let second = put_number(room, 0, network.rows.nodes);
     let mut at = put_number(room, second, links);
     for k in 0..links {
-        at = put_link(room, at, span_at(network, k));
+        at = put_link(room, at, span_at(&network.rows, k));
     }
 }
 
@@ -76,11 +76,11 @@ pub fn write_plan(network: &LentRows<'_>, room: &mut [u8]) -> Result<usize, Plac
     ensures value { written_told result ≡ write_plan (rows_lent network.now) room.old }
     ensures room_after { room.new ≡ room_after (rows_lent network.now) room.old }
 {
-    check_network(network)?;
-    let count = plan_length(network);
+    let network = network.checked()?;
+    let count = plan_length(&network);
     if room.len() < count {
         return Err(Refusal::Room.at(0));
     }
-    put_plan(network, room);
+    put_plan(&network, room);
     Ok(count)
 }

@@ -1,8 +1,6 @@
 -- What the public entries answer by the one verdict on network, failure and tables: its number and place and no figure, or the figures.
--- Where nothing is refused, network and tables are as the walks ask.
 use mathlib.Core.Path.{◌≡◌}
 use mathlib.Core.Logic.{◌≢◌}
-use Prim.Native.Nat.{ℕ}
 use borrow.Author.Tests.{eq-eqb, ne_eqb}
 use lib.ListN.{length}
 use Rattle.net.specs.Refusals.{accepted}
@@ -12,16 +10,11 @@ use Rattle.net.specs.Verdict.{Verdict}
 use Rattle.net.specs.declared.failure.Failure.{Failure}
 use Rattle.tables.specs.Lent.{LentTables}
 use Rattle.walk.specs.Lent.{lent_verdict}
-use Rattle.walk.specs.inner.Reading.{Ready}
-use Rattle.walk.proofs.Verdicts.{lent_network, lent_long}
 use Rattle.report.specs.Line.{no_line, line_of, figures_by, figures_answer}
 use Rattle.report.specs.Lines.{lines_over, lines_held, lines_refused, lines_answer}
 use Rattle.report.specs.declared.counting.Line.{Line}
 
 module _ (R : Rows) (T : LentTables) where
-  pub ready : (number : ℕ) {v : Verdict} → v ≡ lent_verdict R T number → v.number ≡ accepted → Ready R T
-  ready number judged fine = record { network = lent_network R T number judged fine; long = lent_long R T number judged fine }
-
   -- a failure line
   module _ (failure : Failure) {v : Verdict} (judged : v ≡ lent_verdict R T (failure_number (length R.low) failure)) where
     pub figures_refused : {line : Line} → line ≡ no_line → v.number ≢ accepted

@@ -5,11 +5,11 @@ ghost use Rattle.report.specs.Line.{line_of, figures_told, figures_answer};
 ghost use Rattle.report.specs.inner.Counting.{course_at, counted_line, line_below, OneMore, Source};
 ghost use Rattle.tables.specs.Lent.{tables_lent};
 ghost use Rattle.walk.specs.Walk.{ending_number, ending_named};
-ghost use Rattle.walk.specs.inner.Reading.{Ready};
+ghost use Rattle.walk.specs.inner.Reading.{rows_checked, tables_checked};
 
 use net::{Failure, LentRows, Node, PlacedRefusal, check_failure, limit};
 use tables::Tables;
-use walk::inner::{Ending, Question, Walked, check_lent, walk_from};
+use walk::inner::{CheckedTables, Ending, Question, Walked, walk_from};
 
 #[derive(Clone, Copy)]
 pub struct Line {
@@ -51,25 +51,24 @@ fn counted(line: Line, walked: Walked) -> Line
 #[tactic(auto, using(crate::proofs::Walks::walk_counted, crate::proofs::Walks::counted_own, crate::proofs::Walks::counted_none))]
 fn line_from(
     line: Line,
-    network: &LentRows<'_>,
-    tables: &Tables<'_>,
+    checked: &CheckedTables<'_>,
     failure: Failure,
     source: Node,
     trace: &mut [u8],
 ) -> Line
-    requires { Source (rows_lent network.now) (tables_lent tables.now) source.0 line trace.old }
-    ensures { result ≡ line_below network.now.nodes source.0
-        (course_at (rows_lent network.now) (tables_lent tables.now) failure source.0) line }
+    requires { Source (rows_checked checked.now) source.0 line trace.old }
+    ensures { result ≡ line_below checked.now.network.rows.nodes source.0
+        (course_at (rows_checked checked.now) (tables_checked checked.now) failure source.0) line }
 {
     let mut sum = line;
-    for d in 0..network.nodes {
+    for d in 0..checked.network.rows.nodes {
         let destination = Node(d);
         if destination != source {
             let question = Question {
                 destination,
                 failure,
             };
-            let walked = walk_from(network, tables, source, question, limit::REPORT_HOPS, trace);
+            let walked = walk_from(checked, source, question, limit::REPORT_HOPS, trace);
             sum = counted(sum, walked);
         }
     }
@@ -78,14 +77,13 @@ fn line_from(
 
 // All walks of a failure, over tables that have been checked.
 #[tactic(auto, using(crate::proofs::Walks::course_short, crate::proofs::Walks::source_none, crate::proofs::Walks::source_counted, crate::proofs::Walks::sources_done, crate::proofs::Walks::sources_at_most), unfolding(crate::specs::Line::no_line))]
-pub fn line_of(network: &LentRows<'_>, tables: &Tables<'_>, failure: Failure) -> Line
-    requires { Ready (rows_lent network.now) (tables_lent tables.now) }
-    ensures { result ≡ line_of (rows_lent network.now) (tables_lent tables.now) failure }
+pub fn line_of(checked: &CheckedTables<'_>, failure: Failure) -> Line
+    ensures { result ≡ line_of (rows_checked checked.now) (tables_checked checked.now) failure }
 {
     let mut trace = [0u8; limit::REPORT_HOPS + 1];
     let mut line = NO_WALKS;
-    for s in 0..network.nodes {
-        line = line_from(line, network, tables, failure, Node(s), &mut trace);
+    for s in 0..checked.network.rows.nodes {
+        line = line_from(line, checked, failure, Node(s), &mut trace);
     }
     line
 }
@@ -98,6 +96,6 @@ pub fn failure_line(
 ) -> Result<Line, PlacedRefusal>
     ensures { figures_told result ≡ figures_answer (rows_lent network.now) (tables_lent tables.now) failure }
 {
-    check_lent(network, check_failure(network.low.len(), failure), tables)?;
-    Ok(line_of(network, tables, failure))
+    let checked = CheckedTables::of(network, check_failure(network.low.len(), failure), tables)?;
+    Ok(line_of(&checked, failure))
 }

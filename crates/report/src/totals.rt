@@ -4,12 +4,12 @@ ghost use Rattle.net.specs.Lent.{rows_lent};
 ghost use Rattle.report.specs.Line.{line_of};
 ghost use Rattle.report.specs.Lines.{lines_over, lines_held, lines_named, lines_told, lines_answer};
 ghost use Rattle.tables.specs.Lent.{tables_lent};
-ghost use Rattle.walk.specs.inner.Reading.{Ready};
+ghost use Rattle.walk.specs.inner.Reading.{rows_checked, tables_checked};
 
 use crate::counting::{Line, NO_WALKS, line_of};
 use net::{Failure, LentRows, Link, PlacedRefusal, limit};
 use tables::Tables;
-use walk::inner::check_lent;
+use walk::inner::CheckedTables;
 
 // Line 0 is that without failure, line k + 1 that of link k; the places past the last are 0.
 #[derive(Clone, Copy)]
@@ -20,19 +20,18 @@ pub struct Lines {
     pub dropped: usize,
 }
 
-#[tactic(auto, using(crate::proofs::AllLines::held_fits, crate::proofs::AllLines::held_on_fits, crate::proofs::AllLines::held_done))]
-fn lines_of(network: &LentRows<'_>, tables: &Tables<'_>) -> Lines
-    requires { Ready (rows_lent network.now) (tables_lent tables.now) }
-    ensures { lines_named result ≡ lines_held (length network.now.low.now)
-        (lines_over (length network.now.low.now) (line_of (rows_lent network.now) (tables_lent tables.now))) }
+#[tactic(auto, using(crate::proofs::AllLines::held_done))]
+fn lines_of(checked: &CheckedTables<'_>) -> Lines
+    ensures { lines_named result ≡ lines_held (length checked.now.network.rows.low.now)
+        (lines_over (length checked.now.network.rows.low.now) (line_of (rows_checked checked.now) (tables_checked checked.now))) }
 {
     let mut lines = [NO_WALKS; limit::LINKS + 1];
-    let first = line_of(network, tables, Failure::Nothing);
+    let first = line_of(checked, Failure::Nothing);
     lines[0] = first;
     let mut delivered = first.delivered;
     let mut dropped = first.dropped;
-    for k in 0..network.low.len() {
-        let line = line_of(network, tables, Failure::One(Link(k)));
+    for k in 0..checked.network.rows.low.len() {
+        let line = line_of(checked, Failure::One(Link(k)));
         lines[k + 1] = line;
         delivered += line.delivered;
         dropped += line.dropped;
@@ -49,6 +48,6 @@ fn lines_of(network: &LentRows<'_>, tables: &Tables<'_>) -> Lines
 pub fn all_lines(network: &LentRows<'_>, tables: &Tables<'_>) -> Result<Lines, PlacedRefusal>
     ensures { lines_told result ≡ lines_answer (rows_lent network.now) (tables_lent tables.now) }
 {
-    check_lent(network, Ok(()), tables)?;
-    Ok(lines_of(network, tables))
+    let checked = CheckedTables::of(network, Ok(()), tables)?;
+    Ok(lines_of(&checked))
 }

@@ -114,7 +114,7 @@ module _ (R : Rows) (A : Accepted R) where
   module _ (d : ℕ) (destination : d < R.nodes) where
     -- the columns are best
     all_best : BestColumn N All d (column_all R d)
-    all_best = start_best (record { network = A; destination = destination })
+    all_best = start_best A destination
 
     without_best : (out : LinkSet) → BestColumn N (Without out) d (column_without R out d)
     without_best out =

@@ -14,6 +14,7 @@ use Rattle.graph.specs.Entries.{KeyLink}
 use Rattle.graph.proofs.Interfaces.{head_node, tail_node}
 use Rattle.graph.proofs.Sets.{set_empty, set_start, set_taken, set_passed, set_whole}
 use Rattle.net.specs.Limits.{most_nodes}
+use Rattle.net.specs.Check.{Accepted}
 use Rattle.net.specs.Rows.{Rows, Present, network_of, head_of, tail_of}
 use Rattle.net.specs.inner.LinkSet.{value, no_links, with_link}
 use Rattle.net.specs.declared.link_set.LinkSet.{LinkSet}
@@ -43,14 +44,14 @@ module _ {N : Network} {d h : ℕ} where
   pub keys_done : {k : ℕ} (s : LinkSet) → KeysBelow N d h k s → k ≡ N.links → SetOf N.links (KeyLink N d h) (value s)
   keys_done s found all = set_whole (rw all at found)
 
-module _ {R : Rows} {h d : ℕ} (G : Asked R h d) where
+module _ {R : Rows} {h d : ℕ} (A : Accepted R) (G : Asked R h d) where
   open R use {nodes as n, low, high}
 
   abbrev N : Network
   N = network_of R
 
   W : WellFormed N
-  W = well_formed R G.network
+  W = well_formed R A
 
   present : Present R (link h)
   present = interface_present R h G.interface
@@ -63,11 +64,11 @@ module _ {R : Rows} {h d : ℕ} (G : Asked R h d) where
 
   -- the head is a place of a column
   pub head_place : {i : ℕ} → i ≡ head_of low high h → i < most_nodes
-  head_place is = omega (arith, is, head_below, G.network.few_nodes)
+  head_place is = omega (arith, is, head_below, A.few_nodes)
 
   -- and so is the tail
   pub tail_place : {j : ℕ} → j ≡ tail_of low high h → j < most_nodes
-  tail_place is = omega (arith, is, tail_below, G.network.few_nodes)
+  tail_place is = omega (arith, is, tail_below, A.few_nodes)
 
   pub no_keys_here : head_of low high h ≡ d → SetOf (length low) (KeyLink N d h) (value no_links)
   no_keys_here e = rw value_none (set_empty (λ k key. key_not_at_destination N W (head_of_lem R h ∙ e) key))
@@ -82,7 +83,7 @@ module _ {R : Rows} {h d : ℕ} (G : Asked R h d) where
 
     -- what the code reads at a node's place
     abbrev read : (column : List Cost) → length column ≡ most_nodes → {i u : ℕ} → i ≡ u → u < n → get_or column i past ≡ entry_at column u
-    read = read_node G.network.few_nodes past
+    read = read_node A.few_nodes past
 
     pub key_read :
         (key_test h (get_or all i past) (get_or without i past) (get_or without j past) (get_or without x past) (get_or without y past) ≡ true)

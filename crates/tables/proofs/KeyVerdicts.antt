@@ -62,18 +62,17 @@ module _ (R : Rows) (h d : ℕ) where
   accepted_asked e =
       let rest = second_accepted _ _ e in
       record {
-        network = check_accepts R (first_accepted _ _ e);
         interface = leb-false _ _ (passed_test _ interface_number (λ z. omega arith) (first_accepted _ _ rest));
         destination = leb-false _ _ (passed_test _ node_number (λ z. omega arith) (second_accepted _ _ rest));
       }
 
   -- and its verdict names no place
   pub accepted_verdict : (key_links_verdict R h d).number ≡ accepted → key_links_verdict R h d ≡ verdict accepted
-  unfolding link
+  unfolding link key_links_verdict
   accepted_verdict e =
       let asked = accepted_asked e in
       let below = asked.interface in
-      let checked = accepts_check R asked.network in
+      let checked = accepts_check R (check_accepts R (first_accepted _ _ e)) in
       keys_accepted (ap (λ v. v.number) checked) (omega arith) asked.destination ∙ checked
 
 -- what the code's check of a question needs

@@ -14,6 +14,7 @@ use Rattle.graph.specs.Entries.{KeyLink, Free, Aside}
 use Rattle.graph.proofs.Interfaces.{tail_node}
 use Rattle.graph.proofs.Entries.{backwarding_by_own}
 use Rattle.net.specs.Limits.{most_nodes}
+use Rattle.net.specs.Check.{Accepted}
 use Rattle.net.specs.Rows.{Rows, network_of, tail_of}
 use Rattle.net.specs.inner.LinkSet.{value, with_link, Without}
 use Rattle.net.specs.declared.link_set.LinkSet.{LinkSet}
@@ -64,13 +65,12 @@ module _ (N : Network) (W : WellFormed N) {d : ℕ} (h : ℕ) where
   own_stays free own = record { hop = own.hop; entry = backwarding_by_own N W d h free own.entry; is = own.is }
 
 -- the byte by the column without the set
-pub aside_byte : {R : Rows} {h d : ℕ} {all : List Cost} {keys : LinkSet} → KeysKnown R h d all keys
+pub aside_byte : {R : Rows} {h d : ℕ} {all : List Cost} {keys : LinkSet} → Accepted R → KeysKnown R h d all keys
     → {out : LinkSet} → out ≡ with_link keys (link h) → {without : List Cost} → Restarted (network_of R) out all without
     → length without ≡ most_nodes → {j : ℕ} → j ≡ tail_of R.low R.high h → (past : Cost)
     → BackwardingByte (network_of R) h d (entry_byte j d (get_or without j past))
-aside_byte {R} {h} {d} {all} {keys} K {out} is {without} restarted long {j} leaves past =
+aside_byte {R} {h} {d} {all} {keys} network K {out} is {without} restarted long {j} leaves past =
     let N = network_of R in
-    let network = K.asked.network in
     let W = well_formed R network in
     let node : tail N h < R.nodes = tail_node N W h (interface_present R h K.asked.interface) in
     let best = restarted_from_all N W (with_link keys (link h)) (rw is at restarted) K.asked.destination K.column in

@@ -46,7 +46,6 @@ module _ {R : Rows} {before : List ℕ} where
     destination_given {d} destination P =
         let filling = G.given.filling in
         record {
-          network = filling.network;
           destination = destination;
           room = rw P.same_length filling.room;
           column = filling.square d destination;

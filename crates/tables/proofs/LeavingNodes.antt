@@ -17,6 +17,7 @@ use Rattle.graph.specs.Entries.{KeyLink, Free}
 use Rattle.graph.proofs.Interfaces.{reverse_reverse, head_node}
 use Rattle.graph.proofs.Sets.{set_whole}
 use Rattle.net.specs.Limits.{most_nodes}
+use Rattle.net.specs.Check.{Accepted}
 use Rattle.net.specs.Rows.{Rows, network_of}
 use Rattle.net.specs.inner.LinkSet.{no_links, is_empty}
 use Rattle.net.proofs.Accepted.{well_formed}
@@ -58,14 +59,15 @@ pub record NodesPassed (R : Rows) (d i : ℕ) (before after : List ℕ) : Type 0
       → OwnByte (network_of R) h d (get_or after (h * R.nodes + d) 0)
   pub others : (at : ℕ) → ((h : ℕ) → h < 2 * length R.low → at ≢ h * R.nodes + d) → get_or after at 0 ≡ get_or before at 0
 
-module _ {R : Rows} {d : ℕ} {before : List ℕ} {all : List Cost} {kept : List Kept} (G : LeavingOut R d before all kept) where
+module _ {R : Rows} {d : ℕ} {before : List ℕ} {all : List Cost} {kept : List Kept} (A : Accepted R)
+    (G : LeavingOut R d before all kept) where
   open R use {nodes as n, low}
 
   abbrev N : Network
   N = network_of R
 
   W : WellFormed N
-  W = well_formed R G.network
+  W = well_formed R A
 
   same_interface : (h g : ℕ) → h * n + d ≡ g * n + d → h ≡ g
   same_interface h g same = (same_place G.destination G.destination h g same).0
@@ -122,7 +124,7 @@ module _ {R : Rows} {d : ℕ} {before : List ℕ} {all : List Cost} {kept : List
     -- what the code reads for the node; `nothing` and `past` are what a read past an array's end would give
     module _ (kept_long : length kept ≡ most_nodes) (nothing : Kept) where
       kept_is : get_or kept i nothing ≡ kept_at kept i
-      kept_is = read_kept kept i (omega (arith, G.network.few_nodes)) nothing
+      kept_is = read_kept kept i (omega (arith, A.few_nodes)) nothing
 
       -- no key links are kept for it: no interface that enters it has any
       pub node_without_keys : is_empty (get_or kept i nothing).keys ≡ true → NodesPassed R d (i + 1) before table
@@ -149,7 +151,7 @@ module _ {R : Rows} {d : ℕ} {before : List ℕ} {all : List Cost} {kept : List
             ]
 
         returns : h ≡ reverse (entry_at all i).first
-        returns = rw (read_node G.network.few_nodes past all all_long refl node) at back
+        returns = rw (read_node A.few_nodes past all all_long refl node) at back
 
         enters_node : head N h ≡ i
         enters_node = rw returns (back_enters N W (G.column.shows i node) away known)
@@ -159,7 +161,7 @@ module _ {R : Rows} {d : ℕ} {before : List ℕ} {all : List Cost} {kept : List
 
         pub back_keys : KeysKnown R h d all (get_or kept i nothing).keys
         back_keys = record {
-          asked = record { network = G.network; interface = an_interface; destination = G.destination };
+          asked = record { interface = an_interface; destination = G.destination };
           column = G.column;
           are = rw (kept_is, returns) (set_whole ((G.keeps i node).keys away known));
         }

@@ -14,6 +14,7 @@ use Rattle.graph.specs.Network.{Network, WellFormed}
 use Rattle.graph.proofs.Interfaces.{head_node}
 use Rattle.graph.proofs.Chain.{first_present}
 use Rattle.net.specs.Limits.{most_nodes}
+use Rattle.net.specs.Check.{Accepted}
 use Rattle.net.specs.Rows.{Rows, Present, network_of, head_of}
 use Rattle.net.proofs.Accepted.{well_formed}
 use Rattle.net.proofs.Rows.{row_present, head_of_lem}
@@ -42,14 +43,15 @@ pub noted_done : {N : Network} {d k i : ℕ} {all : List Cost} {kept next : List
     → AllKept N d (suc k) all next
 noted_done end D a node = D.passed a (omega arith) node
 
-module _ {R : Rows} {d k : ℕ} {all without : List Cost} {kept : List Kept} (G : Trying R d k all without kept) where
+module _ {R : Rows} {d k : ℕ} {all without : List Cost} {kept : List Kept} (A : Accepted R)
+    (G : Trying R d k all without kept) where
   open R use {nodes as n, low, high}
 
   abbrev N : Network
   N = network_of R
 
   W : WellFormed N
-  W = well_formed R G.network
+  W = well_formed R A
 
   present : Present R k
   present = row_present R k G.row
@@ -71,7 +73,7 @@ module _ {R : Rows} {d k : ℕ} {all without : List Cost} {kept : List Kept} (G 
   -- what the code reads
   module _ (all_long : length all ≡ most_nodes) (i : ℕ) (node : i < n) (past : Cost) where
     read : (column : List Cost) → length column ≡ most_nodes → {i u : ℕ} → i ≡ u → u < n → get_or column i past ≡ entry_at column u
-    read = read_node G.network.few_nodes past
+    read = read_node A.few_nodes past
 
     whole_is : get_or all i past ≡ entry_at all i
     whole_is = read all all_long refl node
@@ -102,7 +104,7 @@ module _ {R : Rows} {d k : ℕ} {all without : List Cost} {kept : List Kept} (G 
 
       -- whose cost the column holds
       pub ahead_place : {j : ℕ} → j ≡ head_of low high (get_or all i past).first → j < most_nodes
-      ahead_place is = omega (arith, is, ahead_node, G.network.few_nodes)
+      ahead_place is = omega (arith, is, ahead_node, A.few_nodes)
 
       -- what is kept of i, the costs of i, of the node after it and of the link's two ends
       pub noted_crossed : {next : List Kept} → NotedBelow N d k all kept i next → length without ≡ most_nodes → (past_kept : Kept)
@@ -117,7 +119,7 @@ module _ {R : Rows} {d k : ℕ} {all without : List Cost} {kept : List Kept} (G 
           (noted_keeps R W present all without G.column G.column_without i node away (kept_at kept i) (G.keeps i node)))
         where
           place : i < length next
-          place = omega (arith, D.long, G.network.few_nodes)
+          place = omega (arith, D.long, A.few_nodes)
 
           stored : c ≡ noting R k all without i (kept_at kept i)
           stored =

@@ -1,7 +1,7 @@
 // The builder of the three tables: one square over all links and one without each link. The square without a link gives the backwarding
 // rows of its two interfaces, as if they had no key links, and shows for which interfaces it is key. With all links tried, the backwarding
 // entries of the interfaces that have key links are worked out anew, and the forwarding rows follow from what was kept.
-ghost use Rattle.std.specs.Prelude.{◌≡◌, ℕ, ◌*◌, ◌≤◌, ◌<◌, length};
+ghost use Rattle.std.specs.Prelude.{◌≡◌, IfOk, ℕ, ◌*◌, ◌≤◌, ◌<◌, length};
 ghost use Rattle.net.specs.Lent.{rows_lent};
 ghost use Rattle.net.specs.Limits.{most_nodes};
 ghost use Rattle.net.specs.Rows.{network_of};
@@ -19,17 +19,22 @@ use crate::entry::fill_row;
 use crate::kept::{Kept, keys_for, none_kept, note_link};
 use crate::lent::{Tables, tables_short};
 use net::{
-    Interface, LentRows, Link, LinkSet, Node, PlacedRefusal, Refusal, check_network, end_at, limit,
+    CheckedRows, Interface, LentRows, Link, LinkSet, Node, PlacedRefusal, Refusal, end_at, limit,
 };
 use paths::inner::{Cost, costs_of, square_of, square_without, turned};
 
-fn fill_routing(table: &mut [u8], network: &LentRows<'_>, all: [[Cost; limit::NODES]; limit::NODES])
-    requires { Filling (rows_lent network.now) network.now.nodes table.old all }
-    ensures { Filled network.now.nodes network.now.nodes
-        (RoutingByte (network_of (rows_lent network.now)))
+#[tactic(auto, using(paths::proofs::Counts::few_nodes))]
+fn fill_routing(
+    table: &mut [u8],
+    network: &CheckedRows<'_>,
+    all: [[Cost; limit::NODES]; limit::NODES],
+)
+    requires { Filling (rows_lent network.now.rows) network.now.rows.nodes table.old all }
+    ensures { Filled network.now.rows.nodes network.now.rows.nodes
+        (RoutingByte (network_of (rows_lent network.now.rows)))
         table.old table.new }
 {
-    let n = network.nodes;
+    let n = network.rows.nodes;
     let rows = turned(all, n);
     for i in 0..n {
         let from = i * n;
@@ -39,22 +44,23 @@ fn fill_routing(table: &mut [u8], network: &LentRows<'_>, all: [[Cost; limit::NO
 }
 
 // The backwarding rows of both interfaces of each link, without that link alone, and what is kept of the links tried on the way.
+#[tactic(auto, using(paths::proofs::Counts::link_nodes))]
 fn fill_without_own(
     table: &mut [u8],
-    network: &LentRows<'_>,
+    network: &CheckedRows<'_>,
     all: [[Cost; limit::NODES]; limit::NODES],
 ) -> [[Kept; limit::NODES]; limit::NODES]
-    requires { Filling (rows_lent network.now) (2 * length network.now.low.now) table.old all }
-    ensures filled { Filled network.now.nodes (2 * length network.now.low.now)
-        (OwnByte (network_of (rows_lent network.now)))
+    requires { Filling (rows_lent network.now.rows) (2 * length network.now.rows.low.now) table.old all }
+    ensures filled { Filled network.now.rows.nodes (2 * length network.now.rows.low.now)
+        (OwnByte (network_of (rows_lent network.now.rows)))
         table.old table.new }
-    ensures square_kept { SquareKept (network_of (rows_lent network.now)) (length network.now.low.now) all result }
+    ensures square_kept { SquareKept (network_of (rows_lent network.now.rows)) (length network.now.rows.low.now) all result }
 {
-    let n = network.nodes;
+    let n = network.rows.nodes;
     let mut kept = none_kept();
-    for k in 0..network.low.len() {
-        let x = end_at(network.low, k);
-        let y = end_at(network.high, k);
+    for k in 0..network.rows.low.len() {
+        let x = end_at(network.rows.low, k);
+        let y = end_at(network.rows.high, k);
         let only = LinkSet::empty().with_link(Link(k));
         let without = square_without(all, network, only);
         let first = 2 * k * n;
@@ -97,22 +103,25 @@ fn forward_costs(
     costs
 }
 
+// As `fill_routing` goes row by row, of other rows: one function for both would take the node and the costs of a row as closures, and no
+// line less.
+#[tactic(auto, using(paths::proofs::Counts::few_nodes))]
 fn fill_forwarding(
     table: &mut [u8],
-    network: &LentRows<'_>,
+    network: &CheckedRows<'_>,
     all: [[Cost; limit::NODES]; limit::NODES],
     kept: [[Kept; limit::NODES]; limit::NODES],
 )
-    requires { FillingByKept (rows_lent network.now) table.old all kept }
-    ensures { Filled network.now.nodes (2 * length network.now.low.now)
-        (ForwardingByte (network_of (rows_lent network.now)))
+    requires { FillingByKept (rows_lent network.now.rows) table.old all kept }
+    ensures { Filled network.now.rows.nodes (2 * length network.now.rows.low.now)
+        (ForwardingByte (network_of (rows_lent network.now.rows)))
         table.old table.new }
 {
-    let n = network.nodes;
+    let n = network.rows.nodes;
     let rows = turned(all, n);
     let found = turned(kept, n);
-    for h in 0..2 * network.low.len() {
-        let i = network.head_of(Interface(h));
+    for h in 0..2 * network.rows.low.len() {
+        let i = network.rows.head_of(Interface(h));
         let from = h * n;
         let to = from + n;
         let costs = forward_costs(Interface(h), n, rows[i.0], found[i.0]);
@@ -121,14 +130,18 @@ fn fill_forwarding(
 }
 
 #[tactic(auto, using(crate::proofs::BuildVerdicts::build_verdicts))]
-fn check_build(network: &LentRows<'_>, tables: &Tables<'_>) -> Result<(), PlacedRefusal>
-    ensures { told result ≡ build_verdict (rows_lent network.now) (tables_lent tables.now) }
+fn check_build<'a>(
+    network: &LentRows<'a>,
+    tables: &Tables<'_>,
+) -> Result<CheckedRows<'a>, PlacedRefusal>
+    ensures refusal { told result ≡ build_verdict (rows_lent network.now) (tables_lent tables.now) }
+    ensures same_rows { IfOk result (λ checked. checked.rows ≡ network.now) }
 {
-    check_network(network)?;
+    let checked = network.checked()?;
     if tables_short(network.nodes, network.low.len(), tables) {
         return Err(Refusal::TableLength.at(0));
     }
-    Ok(())
+    Ok(checked)
 }
 
 // The tables are lent one by one, since this function alone takes all three to be written.
@@ -143,7 +156,7 @@ pub fn build_tables(
         (told result)
         (record { routing = routing.new; forwarding = forwarding.new; backwarding = backwarding.new }) }
 {
-    check_build(
+    let network = check_build(
         network,
         &Tables {
             routing,
@@ -151,10 +164,10 @@ pub fn build_tables(
             backwarding,
         },
     )?;
-    let all = square_of(network);
-    fill_routing(routing, network, all);
-    let kept = fill_without_own(backwarding, network, all);
-    leave_out_keys(backwarding, network, all, kept);
-    fill_forwarding(forwarding, network, all, kept);
+    let all = square_of(&network);
+    fill_routing(routing, &network, all);
+    let kept = fill_without_own(backwarding, &network, all);
+    leave_out_keys(backwarding, &network, all, kept);
+    fill_forwarding(forwarding, &network, all, kept);
     Ok(())
 }

@@ -9,7 +9,7 @@ ghost use Rattle.tables.specs.inner.Detours.{dearer_of, noted, keys_for, none_ke
 ghost use Rattle.tables.specs.inner.Given.{Trying, TryingAll};
 
 use crate::key::{Trial, crosses_link};
-use net::{Interface, LentRows, Link, LinkSet, Node, end_at, limit, reverse_of};
+use net::{CheckedRows, Interface, Link, LinkSet, Node, end_at, limit, reverse_of};
 use paths::inner::Cost;
 
 // The key links found so far of the interface by which the node after this one would send the packet back, and the dearest of the best
@@ -49,24 +49,25 @@ fn noted(kept: Kept, link: Link, trial: &Trial) -> Kept
 
 // Tries a link for one destination, with the column without it, for every node. A key link lies on the node's own best path, so that a
 // link which that path does not cross needs no trying.
+#[tactic(auto, using(paths::proofs::Counts::link_nodes))]
 fn note_column(
     kept: [Kept; limit::NODES],
     all: [Cost; limit::NODES],
     without: [Cost; limit::NODES],
-    network: &LentRows<'_>,
+    network: &CheckedRows<'_>,
     destination: Node,
     link: Link,
 ) -> [Kept; limit::NODES]
-    requires { Trying (rows_lent network.now) destination.0 link.0 all without kept }
-    ensures { AllKept (network_of (rows_lent network.now)) destination.0 (suc link.0) all result }
+    requires { Trying (rows_lent network.now.rows) destination.0 link.0 all without kept }
+    ensures { AllKept (network_of (rows_lent network.now.rows)) destination.0 (suc link.0) all result }
 {
-    let one = without[end_at(network.low, link.0)];
-    let other = without[end_at(network.high, link.0)];
+    let one = without[end_at(network.rows.low, link.0)];
+    let other = without[end_at(network.rows.high, link.0)];
     let mut next = kept;
-    for i in 0..network.nodes {
+    for i in 0..network.rows.nodes {
         let whole = all[i];
         if crosses_link(whole, link) {
-            let j = network.head_of(Interface(whole.first as usize));
+            let j = network.rows.head_of(Interface(whole.first as usize));
             let trial = Trial {
                 whole,
                 after: without[i],
@@ -81,18 +82,19 @@ fn note_column(
 }
 
 // Tries a link, with the square without it, for every destination.
+#[tactic(auto, using(paths::proofs::Counts::few_nodes))]
 pub fn note_link(
     kept: [[Kept; limit::NODES]; limit::NODES],
     all: [[Cost; limit::NODES]; limit::NODES],
     without: [[Cost; limit::NODES]; limit::NODES],
-    network: &LentRows<'_>,
+    network: &CheckedRows<'_>,
     link: Link,
 ) -> [[Kept; limit::NODES]; limit::NODES]
-    requires { TryingAll (rows_lent network.now) link.0 all without kept }
-    ensures { SquareKept (network_of (rows_lent network.now)) (suc link.0) all result }
+    requires { TryingAll (rows_lent network.now.rows) link.0 all without kept }
+    ensures { SquareKept (network_of (rows_lent network.now.rows)) (suc link.0) all result }
 {
     let mut next = kept;
-    for d in 0..network.nodes {
+    for d in 0..network.rows.nodes {
         next[d] = note_column(next[d], all[d], without[d], network, Node(d), link);
     }
     next

@@ -1,6 +1,6 @@
 // Key links, by the column over all links and the columns without one link: the best path from u to d crosses from j to i exactly if
 // the link lies in the set of u's cost and the cost falls from j to i, so that no path has to be followed.
-ghost use Rattle.std.specs.Prelude.{◌≡◌, length};
+ghost use Rattle.std.specs.Prelude.{◌≡◌, IfOk, length};
 ghost use Rattle.graph.specs.Set.{SetOf};
 ghost use Rattle.graph.specs.Entries.{KeyLink};
 ghost use Rattle.net.specs.Lent.{rows_lent};
@@ -12,8 +12,8 @@ ghost use Rattle.tables.specs.inner.KeyTest.{crosses_link, key_test};
 ghost use Rattle.tables.specs.inner.Given.{Asked};
 
 use net::{
-    Interface, LentRows, Link, LinkSet, Node, PlacedRefusal, Refusal, check_network, end_at,
-    link_of, reverse_of,
+    CheckedRows, Interface, LentRows, Link, LinkSet, Node, PlacedRefusal, Refusal, end_at, link_of,
+    reverse_of,
 };
 use paths::inner::{Cost, column_of, column_without};
 
@@ -62,27 +62,28 @@ impl Trial {
 }
 
 // The key links of interface h for d, each link tried by the column without it.
-fn keys_of(network: &LentRows<'_>, h: Interface, destination: Node) -> LinkSet
-    requires { Asked (rows_lent network.now) h.0 destination.0 }
-    ensures { SetOf (length network.now.low.now)
-        (KeyLink (network_of (rows_lent network.now)) destination.0 h.0) (value result) }
+#[tactic(auto, using(paths::proofs::Counts::link_nodes))]
+fn keys_of(network: &CheckedRows<'_>, h: Interface, destination: Node) -> LinkSet
+    requires { Asked (rows_lent network.now.rows) h.0 destination.0 }
+    ensures { SetOf (length network.now.rows.low.now)
+        (KeyLink (network_of (rows_lent network.now.rows)) destination.0 h.0) (value result) }
 {
-    let i = network.head_of(h);
-    let j = network.tail_of(h);
+    let i = network.rows.head_of(h);
+    let j = network.rows.tail_of(h);
     if i == destination {
         return LinkSet::empty();
     }
     let all = column_of(network, destination);
     let mut keys = LinkSet::empty();
-    for k in 0..network.low.len() {
+    for k in 0..network.rows.low.len() {
         let only = LinkSet::empty().with_link(Link(k));
         let without = column_without(all, network, only);
         let trial = Trial {
             whole: all[i.0],
             after: without[i.0],
             ahead: without[j.0],
-            one: without[end_at(network.low, k)],
-            other: without[end_at(network.high, k)],
+            one: without[end_at(network.rows.low, k)],
+            other: without[end_at(network.rows.high, k)],
         };
         if trial.is_key(h) {
             keys = keys.with_link(Link(k));
@@ -92,21 +93,22 @@ fn keys_of(network: &LentRows<'_>, h: Interface, destination: Node) -> LinkSet
 }
 
 #[tactic(auto, using(crate::proofs::KeyVerdicts::key_verdicts))]
-fn check_key_links(
-    network: &LentRows<'_>,
+fn check_key_links<'a>(
+    network: &LentRows<'a>,
     interface: Interface,
     destination: Node,
-) -> Result<(), PlacedRefusal>
-    ensures { told result ≡ key_links_verdict (rows_lent network.now) interface.0 destination.0 }
+) -> Result<CheckedRows<'a>, PlacedRefusal>
+    ensures refusal { told result ≡ key_links_verdict (rows_lent network.now) interface.0 destination.0 }
+    ensures same_rows { IfOk result (λ checked. checked.rows ≡ network.now) }
 {
-    check_network(network)?;
+    let checked = network.checked()?;
     if network.low.len() <= link_of(interface).0 {
         return Err(Refusal::InterfaceNumber.at(0));
     }
     if network.nodes <= destination.0 {
         return Err(Refusal::NodeNumber.at(0));
     }
-    Ok(())
+    Ok(checked)
 }
 
 // The set of key links by link number, bit k for link k; a refusal tells its place and the empty set.
@@ -118,7 +120,7 @@ pub fn key_links(
 ) -> Result<u64, PlacedRefusal>
     ensures { KeyLinksAnswer (rows_lent network.now) interface.0 destination.0 (key_links_told result) }
 {
-    check_key_links(network, interface, destination)?;
-    let keys = keys_of(network, interface, destination);
+    let network = check_key_links(network, interface, destination)?;
+    let keys = keys_of(&network, interface, destination);
     Ok(keys.number())
 }

@@ -15,7 +15,7 @@ ghost use Rattle.text.specs.Written.{number_at_place, refused_text, hex_of};
 mod records;
 
 use net::{LentRows, PlacedRefusal};
-pub use records::{RECORDS, Record, answer_records, read_head};
+pub use records::{RECORDS, Record, answer_records, read_head, read_weights};
 use std::io;
 use std::io::{ErrorKind, Read, Write};
 
@@ -132,7 +132,8 @@ pub fn read_front<R: Read>(input: &mut R, bytes: &mut [u8]) -> io::Result<usize>
     Ok(done)
 }
 
-// Fills the bytes from the input: false where the input ends before. A bool, as no value stands beside it (clauses `filled`, `cut`, `fewer`).
+// Fills the bytes from the input: false where the input ends before. A bool, as no value stands beside it (clauses `filled`, `cut` and
+// `fewer`).
 pub fn read<R: Read>(input: &mut R, bytes: &mut [u8]) -> io::Result<bool>
     ensures filled { IfOk result (λ whole. whole ≡ true → Consumes (R.remaining input.old) (R.remaining input.new) bytes.new) }
     ensures cut { IfOk result (λ whole. whole ≡ false → IsAtEnd (R.remaining input.new)) }
@@ -149,21 +150,8 @@ pub fn read_number<R: Read>(input: &mut R, width: usize) -> io::Result<usize> {
     Ok(number_of(&bytes) as usize)
 }
 
-// Fills the first n weights, 4 bytes each, low byte first: false, as of `read`, where the input ends before, or there are fewer.
-pub fn read_weights<R: Read>(input: &mut R, weights: &mut [u32], n: usize) -> io::Result<bool> {
-    let enough = n <= weights.len();
-    for weight in weights.iter_mut().take(n) {
-        let mut bytes = [0u8; 4];
-        if !read(input, &mut bytes)? {
-            return Ok(false);
-        }
-        *weight = u32::from_le_bytes(bytes);
-    }
-    Ok(enough)
-}
-
 // A network in memory as a batch has it, its rows of any length. The programs have no heap, so each row is an array that has room for the
-// longest, and its length.
+// longest, and its length: one for each row, since they may differ (refusal 9), as those of a `Network` may not.
 #[derive(Clone, Copy)]
 pub struct Rows {
     pub nodes: usize,
@@ -219,7 +207,7 @@ pub fn front<T>(row: &[T], n: usize) -> &[T]
     row.get(..n).unwrap_or(row)
 }
 
-// The same of bytes, to be written.
+// The same of bytes, to be written: no type parameter ranges over what is lent to be read and what is lent to be written.
 pub fn front_room(bytes: &mut [u8], n: usize) -> &mut [u8]
     ensures { result.now ≡ take n bytes.old }
 {

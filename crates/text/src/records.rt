@@ -1,4 +1,4 @@
-// A batch is records one after another (compare/FORMAT.md): the head of each, and the loop that has them answered.
+// A batch is records one after another (compare/FORMAT.md): the head of each, the loop that has them answered, and the weights in them.
 use crate::{read, read_number};
 use std::io;
 use std::io::{Read, Write};
@@ -14,7 +14,7 @@ pub struct Record {
     pub length: usize,
 }
 
-// Reads the head of the next record: none where the input has ended.
+// Reads the head of the next record: none where the input has ended, where other bytes that the input lacks are 0.
 pub fn read_head<R: Read>(input: &mut R) -> io::Result<Option<Record>> {
     let mut kind = [0u8; 1];
     if !read(input, &mut kind)? {
@@ -42,6 +42,18 @@ pub fn answer_records<
         if answer(input, out, record)?.is_break() {
             return Ok(());
         }
+    }
+    Ok(())
+}
+
+// Fills the first n weights, or all where there are fewer, 4 bytes each, low byte first. From where the input ends they stay.
+pub fn read_weights<R: Read>(input: &mut R, weights: &mut [u32], n: usize) -> io::Result<()> {
+    for weight in weights.iter_mut().take(n) {
+        let mut bytes = [0u8; 4];
+        if !read(input, &mut bytes)? {
+            break;
+        }
+        *weight = u32::from_le_bytes(bytes);
     }
     Ok(())
 }

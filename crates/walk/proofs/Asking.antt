@@ -46,6 +46,12 @@ module _ (asked : Asked) (k : ℕ) where
   unfolding bad_start
   arrival_starts_none h e = rw e
 
+-- a walk asks what a step asks at its source
+pub asked_as_start : (n links : ℕ) (source : Node) (question : Question)
+    → step_number n links (Start source) question ≡ walk_number n links source.0 question
+unfolding step_number walk_number bad_interface bad_start
+asked_as_start n links source question = refl
+
 -- a refusal that was passed found its test false
 passed : (test : Bool) {number rest : ℕ} → 0 < number → pick test number rest ≡ accepted → (test ≡ false) × (rest ≡ accepted)
 passed true h e = absurd (omega arith)

@@ -13,9 +13,10 @@ use lib.ListN.{length, get_or, take, drop, length-drop}
 use lib.Seq.{get_or-take, get_or-drop, length-take-le}
 use Rattle.net.specs.Choice.{both}
 use Rattle.net.specs.Rows.{Rows, tail_of, head_of}
-use Rattle.tables.specs.Lent.{LentTables}
+use Rattle.tables.specs.Lent.{LentTables, LongEnough}
 use Rattle.walk.specs.Lent.{all_below, byte_passes, table_passes, tables_pass}
-use Rattle.walk.specs.inner.Reading.{row_passes, Checking, CheckingAll}
+use Rattle.walk.specs.inner.Reading.{row_passes}
+use Rattle.walk.proofs.Hops.{Paired}
 
 both_false : (b : Bool) → both b false ≡ false
 both_false true = refl
@@ -103,7 +104,16 @@ module _ (low high : List ℕ) where
         → true ≡ table_passes n low high rows deciding table
     all_rows rows row within end passed long = sym (table_is rows long ∙ below_all _ rows row within end passed)
 
--- the three tables: what is known where each is checked, and what the answers come to in the order of the code
+-- what is known where a table is checked, and where all three are
+pub record Checking (R : Rows) (rows : ℕ) (table : List ℕ) : Type 0 where
+  pub paired : Paired R.low R.high
+  pub room : rows * R.nodes ≤ length table
+
+pub record CheckingAll (R : Rows) (T : LentTables) : Type 0 where
+  pub paired : Paired R.low R.high
+  pub long : LongEnough R.nodes (length R.low) T
+
+-- the three tables: what is known of each, and what the answers come to in the order of the code
 module _ (R : Rows) (T : LentTables) where
   open R use {nodes as n, low, high}
 

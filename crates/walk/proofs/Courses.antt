@@ -135,7 +135,7 @@ module _ {R : Rows} {T : LentTables} (ready : Ready R T) (question : Question) (
 -- the walk is the whole.
 pub record Along (R : Rows) (T : LentTables) (question : Question) (packet : Packet) (before : List ℕ) (here : Packet)
     (now : List ℕ) : Type 0 where
-  pub standing : Standing R T question here now
+  pub standing : Standing R question here now
   pub same_length : length now ≡ length before
   pub fewer : here.left ≤ packet.left
   pub whole : (r : Walked) (after : List ℕ)

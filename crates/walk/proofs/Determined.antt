@@ -29,5 +29,5 @@ check_lent a inputs x y e f p q = told_once x y (agree p q)
 pub walk_from : Determined walk_from_contract.Learnt
 walk_from a inputs x y e f p q = λ t. record { ending = ending_once x.ending y.ending (agree p.ending q.ending) t; hops = agree p.hops q.hops t }
 
-pub walk_from_trace : Leaves walk_from_contract.Learnt (λ a exit. exit.1.1.1.1.1.0.now)
+pub walk_from_trace : Leaves walk_from_contract.Learnt (λ a exit. exit.1.1.1.1.0.now)
 walk_from_trace a inputs x y e f p q = agree p.trace q.trace

@@ -19,9 +19,9 @@ use Rattle.net.specs.declared.interface.Node.{Node}
 use Rattle.net.proofs.Rows.{head_of_lem}
 use Rattle.tables.specs.Lent.{LentTables}
 use Rattle.walk.specs.Lent.{hop_at, tables_for}
-use Rattle.walk.specs.inner.Reading.{found_by, Paired, Ready}
+use Rattle.walk.specs.inner.Reading.{found_by, Ready}
 use Rattle.walk.proofs.Below.{row_within}
-use Rattle.walk.proofs.Hops.{hop_below, hop_leaves, next_onward, next_node, absent_leadless, head_below, paired}
+use Rattle.walk.proofs.Hops.{hop_below, hop_leaves, next_onward, next_node, absent_leadless, head_below}
 
 -- a hop more and a place in a row can be counted
 pub hop_fits : (hops left room : ℕ) → hops + left < room → left ≢ 0 → room < 2 ^ 64 → Fits w64 (hops + 1)
@@ -38,7 +38,7 @@ place_within f n d room h within = omega arith
 
 module _ {R : Rows} {T : LentTables} (ready : Ready R T) where
   open R use {nodes as n, low, high}
-  open T use {forwarding, backwarding}
+  open T use {routing, forwarding, backwarding}
 
   abbrev N : Network
   N = network_of R
@@ -49,9 +49,13 @@ module _ {R : Rows} {T : LentTables} (ready : Ready R T) where
   pub few_nodes : n ≤ most_nodes
   few_nodes = ready.network.few_nodes
 
-  -- the look-up may be asked
-  pub look_up_at : Paired low high
-  look_up_at = paired R ready.network
+  -- a node has its row in the routing table, and its number can be stored as a byte
+  module _ (i : ℕ) (below : i < n) where
+    pub routing_row : i * n + n ≤ length routing
+    routing_row = row_within n n i (length routing) below ready.long.for_routing
+
+    pub node_fits : Fits w8 i
+    node_fits = record { fits = omega (arith, below, few_nodes) }
 
   -- an interface has its row in both tables, and enters a node
   module _ (f : ℕ) (below : f < 2 * length low) where
@@ -108,7 +112,7 @@ module _ {R : Rows} {T : LentTables} (ready : Ready R T) where
       next_node_below = (leads v f next).node
 
       pub next_fits : Fits w8 v.0
-      next_fits = record { fits = omega (arith, next_node_below, few_nodes) }
+      next_fits = node_fits v.0 next_node_below
 
       pub next_place_within : {d : ℕ} → d < n → f.0 * n + d < length forwarding
       next_place_within {d} within = place_within f.0 n d (length forwarding) (leads v f next).row within

@@ -23,10 +23,18 @@ use Rattle.net.specs.Check.{Accepted}
 use Rattle.net.specs.Entry.{here_byte, nowhere_byte}
 use Rattle.net.specs.declared.interface.Interface.{Interface}
 use Rattle.net.specs.declared.interface.Node.{Node}
-use Rattle.net.proofs.Accepted.{well_formed}
+use Rattle.net.specs.Lent.{rows_lent}
+use Rattle.net.specs.Limits.{most_links}
+use Rattle.net.specs.declared.checked.CheckedRows.{CheckedRows}
+use Rattle.net.proofs.Accepted.{check_accepts, well_formed}
 use Rattle.net.proofs.Rows.{present_row, interface_present, head_of_lem}
 use Rattle.walk.specs.Lent.{leaving, hop_at, leads_on, byte_passes}
-use Rattle.walk.specs.inner.Reading.{found_by, Paired}
+use Rattle.walk.specs.inner.Reading.{found_by}
+
+-- the two rows of ends are as long as each other, and link numbers are no other byte's
+pub record Paired (low high : List ℕ) : Type 0 where
+  pub same : length high ≡ length low
+  pub few : length low ≤ most_links
 
 -- how a link may leave a node, with what was found of its ends
 data Leaves (low high : List ℕ) (i k : ℕ) : Hop → Type 0 where
@@ -144,6 +152,13 @@ module _ (R : Rows) (A : Accepted R) where
       go (inr e) (from_high within not_low at_high) = ap onward (sym e)
       go (inl e) (apart within not_low not_high) = absurd (not_low (low_tail e))
       go (inr e) (apart within not_low not_high) = absurd (not_high (high_tail e))
+
+-- a checked network's
+pub checked_paired : (network : CheckedRows) → Paired network.rows.low.now network.rows.high.now
+checked_paired network = paired (rows_lent network.rows) (check_accepts _ network.passed)
+
+pub high_within : (network : CheckedRows) {k : ℕ} → k < length network.rows.low.now → k < length network.rows.high.now
+high_within network h = omega (arith, (checked_paired network).same)
 
 -- the answers of the look-up, in the order of its tests
 module _ (low high : List ℕ) (i k : ℕ) where

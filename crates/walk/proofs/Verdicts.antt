@@ -22,7 +22,9 @@ use Rattle.tables.proofs.Lengths.{tables_long, long_tables}
 use Rattle.walk.specs.Lent.{tables_pass, tables_verdict, lent_verdict}
 use Rattle.walk.specs.Step.{Refused, step_number, step_of, step_answer}
 use Rattle.walk.specs.Walk.{ending_number, ending_named, walk_number, walk_verdict, course_of, walked_by, walk_answer, trace_after}
+use Rattle.walk.specs.inner.Reading.{rows_checked, tables_checked, Ready}
 use Rattle.walk.specs.inner.Moves.{WentFrom}
+use Rattle.walk.specs.declared.checked.CheckedTables.{CheckedTables}
 use Rattle.walk.specs.declared.walked.Walked.{Walked}
 use Rattle.walk.specs.declared.question.Question.{Question}
 use Rattle.walk.specs.declared.steps.Asked.{Asked}
@@ -56,9 +58,12 @@ module _ (R : Rows) (T : LentTables) where
     pub tables_taken : tables_pass n R.low R.high T ≡ true → verdict accepted ≡ tables_verdict R T
     tables_taken e = sym (by_entries ∙ not_refused table_entry (rw e))
 
-  tables_fine : (tables_verdict R T).number ≡ accepted → LongEnough n links T
+  pub tables_enough : (tables_verdict R T).number ≡ accepted → tables_short n links T ≡ false
   unfolding tables_verdict
-  tables_fine e = tables_long (passed_test _ table_length (λ z. omega arith) (first_accepted _ _ e))
+  tables_enough e = passed_test _ table_length (λ z. omega arith) (first_accepted _ _ e)
+
+  tables_fine : (tables_verdict R T).number ≡ accepted → LongEnough n links T
+  tables_fine e = tables_long (tables_enough e)
 
   -- the network, the question, the tables
   module _ (question : ℕ) where
@@ -101,6 +106,10 @@ module _ (R : Rows) (T : LentTables) where
         ap number_of (or_else_second (check_network R) _ (ap number_of (accepts_check R A)))
         ∙ ap number_of (or_else_second (verdict question) _ e)
         ∙ ap number_of (sym (tables_taken (long_tables long) pass))
+
+-- checked tables are as a step or a walk asks
+pub checked_ready : (checked : CheckedTables) → Ready (rows_checked checked) (tables_checked checked)
+checked_ready checked = record { network = check_accepts _ checked.network.passed; long = tables_long checked.long }
 
 -- a step's answer
 module _ (R : Rows) (T : LentTables) (asked : Asked) (question : Question) {v : Verdict}

@@ -1,4 +1,5 @@
 // What other crates of ours call after the checks, and the checks that they share: a report walks 64,480 times and checks its tables once.
+pub use crate::checked::CheckedTables;
 pub use crate::lent::check_lent;
 pub use crate::moves::walk_from;
 pub use crate::question::Question;

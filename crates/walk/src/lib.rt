@@ -2,6 +2,7 @@
 #![tactic(auto)]
 
 mod around;
+mod checked;
 pub mod inner;
 mod lent;
 mod moves;

@@ -3,19 +3,18 @@
 // at each crossed link, in either. Only the turning round is a call, since a walk is made 64,480 times in a report.
 ghost use Rattle.std.specs.Prelude.{◌≡◌};
 ghost use Rattle.graph.specs.Network.{tail};
-ghost use Rattle.net.specs.Lent.{rows_lent};
 ghost use Rattle.net.specs.Rows.{network_of};
-ghost use Rattle.tables.specs.Lent.{tables_lent};
 ghost use Rattle.walk.specs.Walk.{ending_named, course_of};
 ghost use Rattle.walk.specs.inner.Moves.{lost_ending, HopLeft, moved_on, course_from, course_around, Standing, Turning, Went};
 ghost use Rattle.walk.specs.inner.Moves.{Setting, WentFrom};
+ghost use Rattle.walk.specs.inner.Reading.{rows_checked, tables_checked};
 
 use crate::around::look_around;
+use crate::checked::CheckedTables;
 use crate::lent::look_up;
 use crate::question::Question;
 use crate::walked::{Ending, Walked};
-use net::{Interface, LentRows, Node, blocked};
-use tables::Tables;
+use net::{Interface, Node, blocked};
 
 // A packet on its way: where it stands, the entry that it reads there, the hops left and made, and whether it arrived over a link, by
 // which `lost_ending` tells two endings apart.
@@ -57,16 +56,17 @@ fn moved(packet: Packet, node: Node, entry: u8) -> Packet
 // From where the packet stands: at the source, or past a link just crossed.
 #[cycle(moves)]
 fn forwarding_move(
-    network: &LentRows<'_>,
-    tables: &Tables<'_>,
+    checked: &CheckedTables<'_>,
     question: Question,
     packet: Packet,
     trace: &mut [u8],
 ) -> Walked
-    requires { Standing (rows_lent network.now) (tables_lent tables.now) question packet trace.old }
-    ensures { Went (network_of (rows_lent network.now)) (course_from (rows_lent network.now) (tables_lent tables.now) question packet)
+    requires { Standing (rows_checked checked.now) question packet trace.old }
+    ensures { Went (network_of (rows_checked checked.now))
+        (course_from (rows_checked checked.now) (tables_checked checked.now) question packet)
         packet.hops trace.old result trace.new }
 {
+    let n = checked.network.rows.nodes;
     let mut here = packet;
     while here.node != question.destination {
         if here.left == 0 {
@@ -75,18 +75,18 @@ fn forwarding_move(
                 hops: here.hops,
             };
         }
-        let Some((node, f)) = look_up(network, here.node, here.entry) else {
+        let Some((node, f)) = look_up(&checked.network, here.node, here.entry) else {
             return Walked {
                 ending: lost_ending(here.arrived),
                 hops: here.hops,
             };
         };
         if blocked(question.failure, f) {
-            return backwarding_move(network, tables, question, here, f, trace);
+            return backwarding_move(checked, question, here, f, trace);
         }
         let next = here.hops + 1;
         trace[next] = node.0 as u8;
-        let entry = tables.forwarding[f.0 * network.nodes + question.destination.0];
+        let entry = checked.tables.forwarding[f.0 * n + question.destination.0];
         here = moved(here, node, entry);
     }
     Walked {
@@ -98,52 +98,53 @@ fn forwarding_move(
 // At a node whose entry leads over the failed link by interface f.
 #[cycle(moves)]
 fn backwarding_move(
-    network: &LentRows<'_>,
-    tables: &Tables<'_>,
+    checked: &CheckedTables<'_>,
     question: Question,
     packet: Packet,
     f: Interface,
     trace: &mut [u8],
 ) -> Walked
-    requires { Turning (rows_lent network.now) (tables_lent tables.now) question packet f.0 trace.old }
-    ensures { tail (network_of (rows_lent network.now)) f.0 ≡ packet.node.0
-        → Went (network_of (rows_lent network.now)) (course_around (rows_lent network.now) (tables_lent tables.now) question packet f.0)
+    requires { Turning (rows_checked checked.now) question packet f.0 trace.old }
+    ensures { tail (network_of (rows_checked checked.now)) f.0 ≡ packet.node.0
+        → Went (network_of (rows_checked checked.now))
+        (course_around (rows_checked checked.now) (tables_checked checked.now) question packet f.0)
         packet.hops trace.old result trace.new }
 {
-    let Some((node, g)) = look_around(network, tables, question, packet.node, f) else {
+    let Some((node, g)) = look_around(checked, question, packet.node, f) else {
         return Walked {
             ending: Ending::Dropped,
             hops: packet.hops,
         };
     };
+    let n = checked.network.rows.nodes;
     let next = packet.hops + 1;
     trace[next] = node.0 as u8;
-    let entry = tables.forwarding[g.0 * network.nodes + question.destination.0];
-    forwarding_move(network, tables, question, moved(packet, node, entry), trace)
+    let entry = checked.tables.forwarding[g.0 * n + question.destination.0];
+    forwarding_move(checked, question, moved(packet, node, entry), trace)
 }
 
 // A walk over tables that have been checked.
 pub fn walk_from(
-    network: &LentRows<'_>,
-    tables: &Tables<'_>,
+    checked: &CheckedTables<'_>,
     source: Node,
     question: Question,
     limit: usize,
     trace: &mut [u8],
 ) -> Walked
-    requires { Setting (rows_lent network.now) (tables_lent tables.now) source.0 question limit trace.old }
-    ensures { WentFrom (network_of (rows_lent network.now)) source.0
-        (course_of (rows_lent network.now) (tables_lent tables.now) source.0 question limit)
+    requires { Setting (rows_checked checked.now) source.0 question limit trace.old }
+    ensures { WentFrom (network_of (rows_checked checked.now)) source.0
+        (course_of (rows_checked checked.now) (tables_checked checked.now) source.0 question limit)
         trace.old result trace.new }
 {
+    let n = checked.network.rows.nodes;
     let s = source.0;
     trace[0] = s as u8;
     let packet = Packet {
         node: source,
-        entry: tables.routing[s * network.nodes + question.destination.0],
+        entry: checked.tables.routing[s * n + question.destination.0],
         left: limit,
         hops: 0,
         arrived: false,
     };
-    forwarding_move(network, tables, question, packet, trace)
+    forwarding_move(checked, question, packet, trace)
 }

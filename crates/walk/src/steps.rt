@@ -7,10 +7,12 @@ ghost use Rattle.net.specs.Told.{number_told};
 ghost use Rattle.tables.specs.Lent.{tables_lent};
 ghost use Rattle.walk.specs.Lent.{hop_at};
 ghost use Rattle.walk.specs.Step.{bad_interface, bad_start, step_number, step_at, step_named, stepped_told, step_answer};
+ghost use Rattle.walk.specs.inner.Reading.{rows_checked, tables_checked};
 ghost use Rattle.walk.specs.inner.Steps.{step_around, Placed, Rerouted};
 
 use crate::around::look_around;
-use crate::lent::{check_lent, look_up};
+use crate::checked::CheckedTables;
+use crate::lent::look_up;
 use crate::question::Question;
 use net::{
     Failure, Interface, LentRows, Node, PlacedRefusal, Refusal, blocked, check_failure, link_of,
@@ -56,7 +58,7 @@ fn bad_start(n: usize, asked: Asked) -> bool
 
 // 13, 12, 11 (the start node, then the destination): the first that holds.
 #[tactic(auto, unfolding(crate::specs::Step::step_number, net::specs::Check::first_number))]
-fn check_step(network: &LentRows<'_>, asked: Asked, question: Question) -> Result<(), Refusal>
+pub fn check_step(network: &LentRows<'_>, asked: Asked, question: Question) -> Result<(), Refusal>
     ensures { number_told result ≡ step_number network.now.nodes (length network.now.low.now) asked question }
 {
     let links = network.low.len();
@@ -74,43 +76,32 @@ fn check_step(network: &LentRows<'_>, asked: Asked, question: Question) -> Resul
 }
 
 // Past the failed link: the backwarding entry of interface f, which leaves the node.
-fn step_around(
-    network: &LentRows<'_>,
-    tables: &Tables<'_>,
-    question: Question,
-    node: Node,
-    f: Interface,
-) -> Stepped
-    requires { Rerouted (rows_lent network.now) (tables_lent tables.now) question node.0 f.0 }
-    ensures { tail (network_of (rows_lent network.now)) f.0 ≡ node.0
-        → step_named result ≡ step_around (rows_lent network.now) (tables_lent tables.now) question f.0 }
+fn step_around(checked: &CheckedTables<'_>, question: Question, node: Node, f: Interface) -> Stepped
+    requires { Rerouted (rows_checked checked.now) question node.0 f.0 }
+    ensures { tail (network_of (rows_checked checked.now)) f.0 ≡ node.0
+        → step_named result ≡ step_around (rows_checked checked.now) (tables_checked checked.now) question f.0 }
 {
-    let Some((next, g)) = look_around(network, tables, question, node, f) else {
+    let Some((next, g)) = look_around(checked, question, node, f) else {
         return Stepped::Dropped;
     };
     Stepped::Next(next, g)
 }
 
-// The step at a node with the entry that is read there.
-fn step_at(
-    network: &LentRows<'_>,
-    tables: &Tables<'_>,
-    question: Question,
-    node: Node,
-    entry: u8,
-) -> Stepped
-    requires { Placed (rows_lent network.now) (tables_lent tables.now) question node.0 }
-    ensures { step_named result ≡ step_at (rows_lent network.now) (tables_lent tables.now) question node.0
-        (hop_at network.now.low.now network.now.high.now node.0 entry) }
+// The step at a node with the entry that is read there. A turn of the forwarding move goes the same way and then on; what both do is
+// `look_up` and `blocked`.
+fn step_at(checked: &CheckedTables<'_>, question: Question, node: Node, entry: u8) -> Stepped
+    requires { Placed (rows_checked checked.now) question node.0 }
+    ensures { step_named result ≡ step_at (rows_checked checked.now) (tables_checked checked.now) question node.0
+        (hop_at checked.now.network.rows.low.now checked.now.network.rows.high.now node.0 entry) }
 {
     if node == question.destination {
         return Stepped::Delivered;
     }
-    let Some((next, f)) = look_up(network, node, entry) else {
+    let Some((next, f)) = look_up(&checked.network, node, entry) else {
         return Stepped::NothingToFollow;
     };
     if blocked(question.failure, f) {
-        return step_around(network, tables, question, node, f);
+        return step_around(checked, question, node, f);
     }
     Stepped::Next(next, f)
 }
@@ -129,14 +120,13 @@ pub fn step(
         destination,
         failure,
     };
-    check_lent(network, check_step(network, asked, question), tables)?;
+    let checked = CheckedTables::of(network, check_step(network, asked, question), tables)?;
     let n = network.nodes;
     let d = destination.0;
     Ok(match asked {
-        Asked::Start(i) => step_at(network, tables, question, i, tables.routing[i.0 * n + d]),
+        Asked::Start(i) => step_at(&checked, question, i, tables.routing[i.0 * n + d]),
         Asked::Arrival(h) => step_at(
-            network,
-            tables,
+            &checked,
             question,
             network.head_of(h),
             tables.forwarding[h.0 * n + d],

@@ -1,48 +1,40 @@
 // The public walk: the checks one after the other, and the walk over tables that have been checked.
-ghost use Rattle.std.specs.Prelude.{◌≡◌, length};
+ghost use Rattle.std.specs.Prelude.{◌≡◌, length, IfOk};
 ghost use Rattle.net.specs.Lent.{rows_lent};
-ghost use Rattle.net.specs.Told.{number_told, told};
+ghost use Rattle.net.specs.Told.{told};
 ghost use Rattle.tables.specs.Lent.{tables_lent};
-ghost use Rattle.walk.specs.Walk.{walk_number, walk_verdict, walked_told, walk_answer, trace_after};
+ghost use Rattle.walk.specs.Walk.{walk_verdict, walked_told, walk_answer, trace_after};
 
-use crate::lent::check_lent;
+use crate::checked::CheckedTables;
 use crate::moves::walk_from;
 use crate::question::Question;
+use crate::steps::{Asked, check_step};
 use crate::walked::Walked;
-use net::{Failure, LentRows, Node, PlacedRefusal, Refusal, check_failure};
+use net::{Failure, LentRows, Node, PlacedRefusal, Refusal};
 use tables::Tables;
 
-// 12, 11 (source, then destination): the first that holds.
-#[tactic(auto, unfolding(crate::specs::Walk::walk_number, net::specs::Check::first_number))]
-fn check_walk(network: &LentRows<'_>, source: Node, question: Question) -> Result<(), Refusal>
-    ensures { number_told result ≡ walk_number network.now.nodes (length network.now.low.now) source.0 question }
-{
-    check_failure(network.low.len(), question.failure)?;
-    if network.nodes <= source.0 {
-        return Err(Refusal::NodeNumber);
-    }
-    if network.nodes <= question.destination.0 {
-        return Err(Refusal::NodeNumber);
-    }
-    Ok(())
-}
-
-// The refusals of network, question and tables, then 15.
-fn check_lent_walk(
-    network: &LentRows<'_>,
-    tables: &Tables<'_>,
+// Checked tables, or the refusals of network, question and tables; then 15. A walk is asked what a step is asked at its source.
+fn check_lent_walk<'a>(
+    network: &LentRows<'a>,
+    tables: &Tables<'a>,
     source: Node,
     question: Question,
     limit: u8,
     trace: &[u8],
-) -> Result<(), PlacedRefusal>
-    ensures { told result ≡ walk_verdict (rows_lent network.now) (tables_lent tables.now) source.0 question limit trace.now }
+) -> Result<CheckedTables<'a>, PlacedRefusal>
+    ensures refusal { told result ≡ walk_verdict (rows_lent network.now) (tables_lent tables.now) source.0 question limit trace.now }
+    ensures same_network { IfOk result (λ checked. checked.network.rows ≡ network.now) }
+    ensures same_tables { IfOk result (λ checked. checked.tables ≡ tables.now) }
 {
-    check_lent(network, check_walk(network, source, question), tables)?;
+    let checked = CheckedTables::of(
+        network,
+        check_step(network, Asked::Start(source), question),
+        tables,
+    )?;
     if trace.len() <= limit as usize {
         return Err(Refusal::TraceLength.at(0));
     }
-    Ok(())
+    Ok(checked)
 }
 
 pub fn walk(
@@ -63,7 +55,7 @@ pub fn walk(
         destination,
         failure,
     };
-    check_lent_walk(network, tables, source, question, limit, trace)?;
-    let walked = walk_from(network, tables, source, question, limit as usize, trace);
+    let checked = check_lent_walk(network, tables, source, question, limit, trace)?;
+    let walked = walk_from(&checked, source, question, limit as usize, trace);
     Ok(walked)
 }

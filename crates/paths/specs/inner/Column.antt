@@ -4,8 +4,6 @@ use Rattle.std.specs.Prelude.{ℕ, ◌≤◌, ◌<◌, ◌≡◌, List, ◌∷�
 use Rattle.graph.specs.Network.{Network}
 use Rattle.graph.specs.Path.{Path, BestPath, Over, weight_sum}
 use Rattle.graph.specs.Set.{link_set}
-use Rattle.net.specs.Check.{Accepted}
-use Rattle.net.specs.Rows.{Rows}
 use Rattle.net.specs.inner.LinkSet.{value, Without}
 use Rattle.net.specs.declared.link_set.LinkSet.{LinkSet}
 use Rattle.paths.specs.inner.Cost.{unknown, no_cost}
@@ -26,11 +24,6 @@ pub data Shows (N : Network) (X : ℕ → Type 0) (i d : ℕ) (c : Cost) : Type 
 pub record BestColumn (N : Network) (X : ℕ → Type 0) (d : ℕ) (column : List Cost) : Type 0 where
   pub shows : (i : ℕ) → i < N.nodes → Shows N X i d (entry_at column i)
   pub beyond : (i : ℕ) → N.nodes ≤ i → entry_at column i ≡ no_cost
-
--- an accepted network and a node of it
-pub record OneDestination (R : Rows) (d : ℕ) : Type 0 where
-  pub network : Accepted R
-  pub destination : d < R.nodes
 
 -- The column `after` shows the best paths without the links `out`, whatever node the column before it is for, if that one shows the
 -- best paths without some of these links, or without none.

@@ -1,8 +1,8 @@
 -- How the code fills a column: rounds over the links, each of which offers its two ends their ways over it, until a round changes nothing.
 -- That this leaves the best column is proved (proofs/BestColumn.antt).
-use Rattle.std.specs.Prelude.{ℕ, zero, suc, ◌+◌, ◌*◌, ◌-◌, ◌≤◌, ◌<◌, Bool, true, false, not, ◌≡◌, List, length, get_or, set, replicate}
+use Rattle.std.specs.Prelude.{ℕ, zero, suc, ◌+◌, ◌*◌, ◌-◌, Bool, true, false, not, List, length, get_or, set, replicate}
 use Rattle.std.specs.Prelude.{Option, Some, None}
-use Rattle.net.specs.Limits.{most_nodes, most_links}
+use Rattle.net.specs.Limits.{most_nodes}
 use Rattle.net.specs.Choice.{pick, both}
 use Rattle.net.specs.Rows.{Rows}
 use Rattle.net.specs.inner.LinkSet.{no_links, with_link, has_link, meeting}
@@ -10,18 +10,6 @@ use Rattle.net.specs.declared.link_set.LinkSet.{LinkSet}
 use Rattle.paths.specs.inner.Cost.{no_cost, here_cost, is_known, before, extended}
 use Rattle.paths.specs.inner.Column.{entry_at}
 use Rattle.paths.specs.declared.cost.Cost.{Cost}
-
--- rows of ends that are places of a column
-pub record Placed (low high : List ℕ) : Type 0 where
-  pub high_row : length high ≡ length low
-  pub few_links : length low ≤ most_links
-  pub low_place : (k : ℕ) → k < length low → get_or low k 0 < most_nodes
-  pub high_place : (k : ℕ) → k < length low → get_or high k 0 < most_nodes
-
--- and a row of weights beside them
-pub record Linked (low high weight : List ℕ) : Type 0 where
-  pub ends : Placed low high
-  pub weight_row : length weight ≡ length low
 
 -- what one pass over a column leaves, and whether it changed a cost
 pub record Revised : Type 0 where

@@ -1,10 +1,8 @@
--- Bytes put into a room: what must be known before, namely that a number, a link or a plan can be stored and fits; and what is then so.
+-- Bytes put into a room: what must be known before, namely that a number or a link can be stored and fits; and what is then so.
 use Rattle.std.specs.Prelude.{ℕ, ◌+◌, ◌≤◌, ◌<◌, ◌≡◌, List, length}
-use Rattle.net.specs.Rows.{Rows}
-use Rattle.net.specs.Check.{Accepted}
 use Rattle.net.specs.inner.Overwritten.{overwritten}
 use Rattle.plan.specs.Number.{most_stored, stored}
-use Rattle.plan.specs.Plan.{link_bytes, plan_of}
+use Rattle.plan.specs.Plan.{link_bytes}
 
 pub record NumberFits (value at : ℕ) (room : List ℕ) : Type 0 where
   pub storable : value < most_stored
@@ -19,10 +17,6 @@ pub record Storable (low high weight : ℕ) : Type 0 where
 pub record LinkFits (low high weight at : ℕ) (room : List ℕ) : Type 0 where
   pub storable : Storable low high weight
   pub fits : at + length (link_bytes low high weight) ≤ length room
-
-pub record PlanFits (R : Rows) (room : List ℕ) : Type 0 where
-  pub network : Accepted R
-  pub fits : length (plan_of R) ≤ length room
 
 -- the bytes stand in the room from a place on, and `next` is the place after them
 pub record Put (bytes : List ℕ) (at : ℕ) (before after : List ℕ) (next : ℕ) : Type 0 where

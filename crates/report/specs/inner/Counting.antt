@@ -7,7 +7,6 @@ use Rattle.net.specs.Rows.{Rows}
 use Rattle.net.specs.declared.failure.Failure.{Failure}
 use Rattle.tables.specs.Lent.{LentTables}
 use Rattle.walk.specs.Walk.{ending_number, course_of}
-use Rattle.walk.specs.inner.Reading.{Ready}
 use Rattle.report.specs.Line.{sum_below, most_below, counts_delivered, counts_other, counts_hops}
 use Rattle.report.specs.declared.counting.Line.{Line}
 
@@ -44,8 +43,7 @@ pub record OneMore (line : Line) (hops : ℕ) : Type 0 where
   pub short : hops ≤ report_hops
 
 -- what is known where the walks of a source are made, those of the sources before it having been counted
-pub record Source (R : Rows) (T : LentTables) (s : ℕ) (line : Line) (trace : List ℕ) : Type 0 where
-  pub ready : Ready R T
+pub record Source (R : Rows) (s : ℕ) (line : Line) (trace : List ℕ) : Type 0 where
   pub source : s < R.nodes
   pub room : report_hops < length trace
   pub counted : AtMostWalks (s * R.nodes) line

@@ -1,11 +1,10 @@
--- What each function of the builder is given: the facts that the checks before it have brought.
+-- What each function of the builder is given besides a checked network: the facts that the steps before it have brought.
 use Rattle.std.specs.Prelude.{ℕ, ◌+◌, ◌*◌, ◌≤◌, ◌<◌, List, length, get_or}
 use Rattle.graph.specs.Path.{All, But}
 use Rattle.graph.specs.Set.{SetOf}
 use Rattle.graph.specs.Entries.{KeyLink}
 use Rattle.net.specs.Limits.{most_nodes, most_links}
 use Rattle.net.specs.Rows.{Rows, network_of}
-use Rattle.net.specs.Check.{Accepted}
 use Rattle.net.specs.inner.LinkSet.{value}
 use Rattle.net.specs.declared.link_set.LinkSet.{LinkSet}
 use Rattle.paths.specs.inner.Column.{BestColumn}
@@ -20,15 +19,13 @@ pub record WithinLimits (n links : ℕ) : Type 0 where
   pub few_nodes : n ≤ most_nodes
   pub few_links : links ≤ most_links
 
--- an accepted network, an interface of it and a node
+-- an interface of the network and a node
 pub record Asked (R : Rows) (h d : ℕ) : Type 0 where
-  pub network : Accepted R
   pub interface : h < 2 * length R.low
   pub destination : d < R.nodes
 
 -- a table with room for so many rows, and the best paths over all links
 pub record Filling (R : Rows) (rows : ℕ) (table : List ℕ) (all : List (List Cost)) : Type 0 where
-  pub network : Accepted R
   pub room : rows * R.nodes ≤ length table
   pub square : BestSquare (network_of R) All all
 
@@ -44,7 +41,6 @@ pub record LeavingOutAll (R : Rows) (table : List ℕ) (all : List (List Cost)) 
 
 -- the same for one destination
 pub record LeavingOut (R : Rows) (d : ℕ) (table : List ℕ) (all : List Cost) (kept : List Kept) : Type 0 where
-  pub network : Accepted R
   pub destination : d < R.nodes
   pub room : 2 * length R.low * R.nodes ≤ length table
   pub column : BestColumn (network_of R) All d all
@@ -59,7 +55,6 @@ pub record KeysKnown (R : Rows) (h d : ℕ) (all : List Cost) (keys : LinkSet) :
 
 -- link k, the best paths to d over all links and without it, and what is kept of the links before it
 pub record Trying (R : Rows) (d k : ℕ) (all without : List Cost) (kept : List Kept) : Type 0 where
-  pub network : Accepted R
   pub row : k < length R.low
   pub column : BestColumn (network_of R) All d all
   pub column_without : BestColumn (network_of R) (But k) d without
@@ -67,7 +62,6 @@ pub record Trying (R : Rows) (d k : ℕ) (all without : List Cost) (kept : List 
 
 -- the same for all destinations
 pub record TryingAll (R : Rows) (k : ℕ) (all without : List (List Cost)) (kept : List (List Kept)) : Type 0 where
-  pub network : Accepted R
   pub row : k < length R.low
   pub square : BestSquare (network_of R) All all
   pub square_without : BestSquare (network_of R) (But k) without

@@ -9,7 +9,6 @@ use Rattle.net.specs.inner.Overwritten.{overwritten}
 use Rattle.tables.specs.Lent.{LentTables}
 use Rattle.walk.specs.Lent.{hop_at, tables_for}
 use Rattle.walk.specs.Walk.{ending_named}
-use Rattle.walk.specs.inner.Reading.{Ready}
 use Rattle.net.specs.declared.interface.Node.{Node}
 use Rattle.walk.specs.declared.question.Question.{Question}
 use Rattle.walk.specs.declared.moves.Packet.{Packet}
@@ -47,15 +46,14 @@ course_around R T question packet f =
     goes_on (walk_on (network_of R) failed entries d (packet.left - 1)) dropped (around failed (entries.backwarding f))
 
 -- what is known where a packet stands at a node
-pub record Standing (R : Rows) (T : LentTables) (question : Question) (packet : Packet) (trace : List ℕ) : Type 0 where
-  pub ready : Ready R T
+pub record Standing (R : Rows) (question : Question) (packet : Packet) (trace : List ℕ) : Type 0 where
   pub destination : question.destination.0 < R.nodes
   pub node : packet.node.0 < R.nodes
   pub room : packet.hops + packet.left < length trace
 
 -- and where its entry leads over the failed link, by interface f
-pub record Turning (R : Rows) (T : LentTables) (question : Question) (packet : Packet) (f : ℕ) (trace : List ℕ) : Type 0 where
-  pub standing : Standing R T question packet trace
+pub record Turning (R : Rows) (question : Question) (packet : Packet) (f : ℕ) (trace : List ℕ) : Type 0 where
+  pub standing : Standing R question packet trace
   pub some : 0 < packet.left
   pub interface : f < 2 * length R.low
 
@@ -66,8 +64,7 @@ pub record Went (N : Network) (course : Course) (hops : ℕ) (before : List ℕ)
   pub trace : after ≡ overwritten before (hops + 1) (map (head N) course.crossed)
 
 -- what is known where a walk is made
-pub record Setting (R : Rows) (T : LentTables) (s : ℕ) (question : Question) (limit : ℕ) (trace : List ℕ) : Type 0 where
-  pub ready : Ready R T
+pub record Setting (R : Rows) (s : ℕ) (question : Question) (limit : ℕ) (trace : List ℕ) : Type 0 where
   pub source : s < R.nodes
   pub destination : question.destination.0 < R.nodes
   pub room : limit < length trace

@@ -11,7 +11,6 @@ use Rattle.net.specs.declared.interface.Node.{Node}
 use Rattle.tables.specs.Lent.{LentTables}
 use Rattle.walk.specs.Lent.{tables_for}
 use Rattle.walk.specs.Step.{Stepped, told}
-use Rattle.walk.specs.inner.Reading.{Ready}
 use Rattle.walk.specs.declared.question.Question.{Question}
 
 -- the step past the failed link, by the backwarding entry of interface f
@@ -24,12 +23,11 @@ unblocked failure None = None
 unblocked failure (Some (v, g)) = pick (fails failure (link g.0)) None (Some (v, g))
 
 -- a packet stands at node i
-pub record Placed (R : Rows) (T : LentTables) (question : Question) (i : ℕ) : Type 0 where
-  pub ready : Ready R T
+pub record Placed (R : Rows) (question : Question) (i : ℕ) : Type 0 where
   pub destination : question.destination.0 < R.nodes
   pub node : i < R.nodes
 
 -- and its entry leads over the failed link, by interface f
-pub record Rerouted (R : Rows) (T : LentTables) (question : Question) (i f : ℕ) : Type 0 where
-  pub placed : Placed R T question i
+pub record Rerouted (R : Rows) (question : Question) (i f : ℕ) : Type 0 where
+  pub placed : Placed R question i
   pub interface : f < 2 * length R.low

@@ -62,25 +62,24 @@ module _ (R : Rows) (s d : ℕ) (accepts : told {Answer = Unit} (Ok tt) ≡ best
 
 pub column_of-column-requires : goal.column_of-column-requires
 column_of-column-requires c =
-    let at = passes _ _ _ c.in_ok-check_best_path.ensures in
-    record { network = at.network; destination = at.destination }
+    rw c.in_ok-network.ensures.same_rows (passes _ _ _ c.in_ok-network.ensures.refusal).destination
 
 pub offset_bounds-column-source : goal.offset_bounds-column-source
-offset_bounds-column-source c = omega (arith, source_place _ _ _ c.in_ok-check_best_path.ensures)
+offset_bounds-column-source c = omega (arith, source_place _ _ _ c.in_ok-network.ensures.refusal)
 
 pub bounds-column-source : goal.bounds-column-source
-bounds-column-source c = omega (arith, source_place _ _ _ c.in_ok-check_best_path.ensures)
+bounds-column-source c = omega (arith, source_place _ _ _ c.in_ok-network.ensures.refusal)
 
 pub returns-then-eq : goal.returns-then-eq
-returns-then-eq c = here _ _ _ c.in_ok-check_best_path.ensures (eqb-true _ _ (sym c.eq.ensures ∙ c.if-eq.true))
+returns-then-eq c = here _ _ _ c.in_ok-network.ensures.refusal (eqb-true _ _ (sym c.eq.ensures ∙ c.if-eq.true))
 
 pub returns-then-known : goal.returns-then-known
 returns-then-known c =
     rw (c.number.ensures, c.onward.ensures)
-    (found _ _ _ c.in_ok-check_best_path.ensures c.column_of-column.type_inv.1.0.1 c.column_of-column.ensures _
+    (found _ _ _ c.in_ok-network.ensures.refusal c.column_of-column.type_inv.1.0.1 (rw c.in_ok-network.ensures.same_rows at c.column_of-column.ensures) _
     (eqb-false _ _ (sym c.eq.ensures ∙ c.if-eq.false)) (sym c.known.ensures ∙ c.if-known.true))
 
 pub returns : goal.returns
 returns c =
-    none _ _ _ c.in_ok-check_best_path.ensures c.column_of-column.type_inv.1.0.1 c.column_of-column.ensures _
+    none _ _ _ c.in_ok-network.ensures.refusal c.column_of-column.type_inv.1.0.1 (rw c.in_ok-network.ensures.same_rows at c.column_of-column.ensures) _
     (eqb-false _ _ (sym c.eq.ensures ∙ c.if-eq.false)) (sym c.known.ensures ∙ c.if-known.false)

@@ -9,5 +9,5 @@ use Rattle.paths.proofs.column.offering_links.Given as goal
 
 abbrev pub invariant-loop-k : goal.invariant-loop-k
 invariant-loop-k l =
-    let R = rows_lent l.network in
+    let R = rows_lent l.network.rows in
     offering_links R.low R.high l.out l.given ≡ offering_from (length R.low - l.k) R.low R.high l.out l.given l.k l.offering

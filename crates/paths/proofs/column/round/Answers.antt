@@ -7,6 +7,7 @@ use lib.ListN.{length, get_or}
 use Rattle.paths.specs.inner.Rounds.{turn_of}
 use Rattle.paths.specs.inner.Rounds.{Revised}
 use Rattle.paths.proofs.Columns.{turn_below, round_kept, told_changed, told_still}
+use Rattle.paths.proofs.Counts.{low_place, high_place}
 use Rattle.paths.proofs.Steps.{stored, link_offered, round_begin, round_done, round_skip, round_on}
 use Rattle.paths.proofs.column.round.Goals.{then-comes_before, else-comes_before, then-has_link+then-comes_before-2, then-has_link+else-comes_before-2, else-has_link}
 use Rattle.paths.proofs.column.round.Goals as goal
@@ -22,17 +23,17 @@ loop-j-init c =
 pub loop-j-preserved : goal.loop-j-preserved
 loop-j-preserved c =
     let args = c.args in
-    let low = args.network.now.low.now in
-    let high = args.network.now.high.now in
-    let weight = args.network.now.weight.now in
+    let low = args.network.now.rows.low.now in
+    let high = args.network.now.rows.high.now in
+    let weight = args.network.now.rows.weight.now in
     let at = c.loop-j in
     let s : Revised = record { column = at.next; changed = at.changed } in
     let k = c.turn_of-k.result in
     let h = c.loop-j-test.true in
     let whose = c.turn_of-k.ensures in
     let row : k < length low = in_rows _ _ _ _ h whose in
-    let low_place = c.requires.ends.low_place _ row in
-    let high_place = c.requires.ends.high_place _ row in
+    let low_place = low_place _ _ _ _ c.args.network.now.passed _ row in
+    let high_place = high_place _ _ _ _ c.args.network.now.passed _ row in
     let on = round_on low high weight args.offering args.upward at.j s h whose c.has_link.ensures in
     elim c.if-has_link.branch [
       | then-has_link+then-comes_before-2 w ↦

@@ -10,7 +10,7 @@ use Rattle.paths.proofs.column.round.Given as goal
 
 abbrev pub invariant-loop-j : goal.invariant-loop-j
 invariant-loop-j l =
-    let R = rows_lent l.network in
+    let R = rows_lent l.network.rows in
     (length l.next ≡ most_nodes)
     × (round_of R.low R.high R.weight l.offering l.upward l.initial.next
     ≡ round_from (length R.low - l.j) R.low R.high R.weight l.offering l.upward l.j (record { column = l.next; changed = l.changed }))

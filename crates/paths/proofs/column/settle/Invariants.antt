@@ -9,5 +9,5 @@ use Rattle.paths.proofs.column.settle.Given as goal
 
 abbrev pub invariant-loop : goal.invariant-loop
 invariant-loop l =
-    let R = rows_lent l.network in
+    let R = rows_lent l.network.rows in
     rounds_from (R.nodes - 1) R l.offering true l.initial.column ≡ rounds_from (R.nodes - l.counter) R l.offering l.upward l.column

@@ -2,6 +2,7 @@ use mathlib.Core.Path.{◌≡◌, refl, ◌∙◌}
 use native.Mathlib.Omega.{arith}
 use borrow.Author.Count.{below_more}
 use lib.ListN.{length-set}
+use Rattle.paths.proofs.Counts.{few_nodes}
 use Rattle.paths.proofs.Steps.{column_first, column_replaced, column_kept}
 use Rattle.paths.proofs.square.square_of.Goals as goal
 
@@ -19,5 +20,5 @@ loop-d-preserved c =
     let column = c.column_of.result in (
       length-set at.square at.d column ∙ at.invariant.0,
       below_more _ _ (λ e h. rw (column_kept at.square at.d column e (λ q. omega arith)) (at.invariant.1 e h))
-          (rw (column_replaced at.square at.d column (omega arith)) c.column_of.ensures),
+          (rw (column_replaced at.square at.d column (omega (arith, few_nodes _ c.args.network.now.passed))) c.column_of.ensures),
     )

@@ -14,4 +14,4 @@ use Rattle.paths.proofs.square.square_of.Given as goal
 abbrev pub invariant-loop-d : goal.invariant-loop-d
 invariant-loop-d l =
     (length l.square ≡ most_nodes)
-    × ((e : ℕ) → e < l.d → BestColumn (network_of (rows_lent l.network)) All e (column_for l.square e))
+    × ((e : ℕ) → e < l.d → BestColumn (network_of (rows_lent l.network.rows)) All e (column_for l.square e))

@@ -12,6 +12,6 @@ use Rattle.paths.proofs.square.square_without.Given as goal
 
 abbrev pub invariant-loop-column : goal.invariant-loop-column
 invariant-loop-column l =
-    let N = network_of (rows_lent l.network) in
+    let N = network_of (rows_lent l.network.rows) in
     ((e : ℕ) → l.column-index ≤ e → column_for l.column-items e ≡ column_for l.initial.column-items e)
     × (BestSquare N All l.initial.column-items → (e : ℕ) → e < l.column-index → BestColumn N (Without l.out) e (column_for l.column-items e))

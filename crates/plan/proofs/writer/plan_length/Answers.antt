@@ -7,6 +7,7 @@ use lib.ListN.{length}
 use Rattle.net.specs.Rows.{Rows}
 use Rattle.net.specs.Check.{span_at, Accepted}
 use Rattle.net.specs.declared.check.Span.{Span}
+use Rattle.net.proofs.Accepted.{check_accepts}
 use Rattle.plan.specs.Number.{stored}
 use Rattle.plan.specs.Plan.{link_bytes, link_bytes_at, plan_of, longest}
 use Rattle.plan.proofs.Lengths.{plan_short, length_plan, length_links_on, links_done}
@@ -31,9 +32,15 @@ module _ {R : Rows} {links count k : ℕ} (at : Counted R links count k) where
   all_counted : links ≤ k → count ≡ length (plan_of R)
   all_counted done = omega (arith, at.sum, ap length (links_done R links k done))
 
+pub stored_length-requires : goal.stored_length-requires
+stored_length-requires c = omega (arith, check_accepts _ c.args.network.now.passed)
+
+pub stored_length-requires-2 : goal.stored_length-requires-2
+stored_length-requires-2 c = omega (arith, check_accepts _ c.args.network.now.passed)
+
 pub loop-k-init : goal.loop-k-init
 loop-k-init c =
-    none_counted c.requires c.stored_length.ensures c.stored_length-2.ensures
+    none_counted (check_accepts _ c.args.network.now.passed) c.stored_length.ensures c.stored_length-2.ensures
 
 pub loop-k-preserved : goal.loop-k-preserved
 loop-k-preserved c =

@@ -16,4 +16,4 @@ pub record Counted (R : Rows) (links count k : ℕ) : Type 0 where
   pub sum : length (plan_of R) ≡ count + length (links_bytes (links - k) R k)
 
 abbrev pub invariant-loop-k : goal.invariant-loop-k
-invariant-loop-k l = Counted (rows_lent l.network) l.links l.count l.k
+invariant-loop-k l = Counted (rows_lent l.network.rows) l.links l.count l.k

@@ -10,6 +10,7 @@ use Rattle.net.specs.Check.{span_at, Accepted}
 use Rattle.net.specs.declared.check.Span.{Span}
 use Rattle.net.specs.inner.Overwritten.{overwritten}
 use Rattle.net.proofs.Overwrite.{over_none, over_parts}
+use Rattle.net.proofs.Accepted.{check_accepts}
 use Rattle.plan.specs.Plan.{link_bytes, link_bytes_at, links_bytes}
 use Rattle.plan.specs.inner.Put.{LinkFits, Put}
 use Rattle.plan.proofs.Lengths.{links_done, links_on, length_links_on}
@@ -54,16 +55,16 @@ none_put : {R : Rows} {first : ℕ} {room : List ℕ} → Accepted R → first +
 none_put network fits = record { network = network; all = refl; same_length = refl; fits = rw sub-zero fits; same_room = rw sub-zero refl }
 
 pub put_number-second-requires : goal.put_number-second-requires
-put_number-second-requires c = nodes_fit c.requires
+put_number-second-requires c = nodes_fit _ (check_accepts _ c.args.network.now.passed) c.requires
 
 pub put_number-at-requires : goal.put_number-at-requires
 put_number-at-requires c =
-    count_fits c.requires c.put_number-second.ensures
+    count_fits _ (check_accepts _ c.args.network.now.passed) c.requires c.put_number-second.ensures
 
 pub loop-k-init : goal.loop-k-init
 loop-k-init c =
-    let plan = c.requires in
-    none_put plan.network (links_fit plan c.put_number-second.ensures c.put_number-at.ensures)
+    let network = check_accepts _ c.args.network.now.passed in
+    none_put network (links_fit _ network c.requires c.put_number-second.ensures c.put_number-at.ensures)
 
 pub put_link-at-requires : goal.put_link-at-requires
 put_link-at-requires c =
@@ -76,5 +77,4 @@ loop-k-preserved c =
 
 pub returns : goal.returns
 returns c =
-    let plan = c.requires in
-    plan_put plan c.put_number-second.ensures c.put_number-at.ensures (all_put c.loop-k.invariant c.loop-k-test.false)
+    plan_put _ (check_accepts _ c.args.network.now.passed) c.requires c.put_number-second.ensures c.put_number-at.ensures (all_put c.loop-k.invariant c.loop-k-test.false)

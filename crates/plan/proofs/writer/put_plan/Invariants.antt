@@ -21,4 +21,4 @@ pub record Begun (R : Rows) (links first : ℕ) (room₀ room : List ℕ) (at k 
 
 abbrev pub invariant-loop-k : goal.invariant-loop-k
 invariant-loop-k l =
-    Begun (rows_lent l.network) l.links l.initial.at l.initial.room l.room l.at l.k
+    Begun (rows_lent l.network.rows) l.links l.initial.at l.initial.room l.room l.at l.k

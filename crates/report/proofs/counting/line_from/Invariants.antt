@@ -4,8 +4,7 @@ use mathlib.Core.Path.{◌≡◌}
 use mathlib.Core.List.{List}
 use lib.ListN.{length}
 use Rattle.graph.specs.Walk.{Course}
-use Rattle.net.specs.Lent.{rows_lent}
-use Rattle.tables.specs.Lent.{tables_lent}
+use Rattle.walk.specs.inner.Reading.{rows_checked, tables_checked}
 use Rattle.report.specs.inner.Counting.{course_at, line_below}
 use Rattle.report.specs.declared.counting.Line.{Line}
 use Rattle.report.proofs.counting.line_from.Given as goal
@@ -18,5 +17,5 @@ pub record Below (s : ℕ) (course : ℕ → Course) (trace₀ : List ℕ) (sum�
 abbrev pub invariant-loop-d : goal.invariant-loop-d
 invariant-loop-d l =
     Below l.source.0
-    (course_at (rows_lent l.network) (tables_lent l.tables) l.failure l.source.0)
+    (course_at (rows_checked l.checked) (tables_checked l.checked) l.failure l.source.0)
     l.initial.trace l.initial.sum l.trace l.sum l.d

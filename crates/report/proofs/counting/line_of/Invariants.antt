@@ -5,8 +5,7 @@ use mathlib.Core.List.{List}
 use lib.ListN.{length}
 use Rattle.graph.specs.Walk.{Course}
 use Rattle.net.specs.Limits.{report_hops}
-use Rattle.net.specs.Lent.{rows_lent}
-use Rattle.tables.specs.Lent.{tables_lent}
+use Rattle.walk.specs.inner.Reading.{rows_checked, tables_checked}
 use Rattle.report.specs.inner.Counting.{course_at}
 use Rattle.report.specs.declared.counting.Line.{Line}
 use Rattle.report.proofs.Walks.{sources_below}
@@ -19,4 +18,4 @@ pub record Below (n : ℕ) (course : ℕ → ℕ → Course) (trace : List ℕ) 
 
 abbrev pub invariant-loop-s : goal.invariant-loop-s
 invariant-loop-s l =
-    Below l.network.nodes (course_at (rows_lent l.network) (tables_lent l.tables) l.failure) l.trace l.line l.s
+    Below l.checked.network.rows.nodes (course_at (rows_checked l.checked) (tables_checked l.checked) l.failure) l.trace l.line l.s

@@ -6,4 +6,4 @@ use Rattle.tables.proofs.backward.leave_out.Given as goal
 
 abbrev pub invariant-loop-i : goal.invariant-loop-i
 invariant-loop-i l =
-    NodesPassed (rows_lent l.network) l.destination.0 l.i l.initial.table l.table
+    NodesPassed (rows_lent l.network.rows) l.destination.0 l.i l.initial.table l.table

@@ -5,4 +5,4 @@ use Rattle.tables.proofs.backward.leave_out_keys.Given as goal
 
 abbrev pub invariant-loop-d : goal.invariant-loop-d
 invariant-loop-d l =
-    DestinationsPassed (rows_lent l.network) l.d l.initial.table l.table
+    DestinationsPassed (rows_lent l.network.rows) l.d l.initial.table l.table

@@ -4,4 +4,4 @@ use Rattle.tables.proofs.BuildVerdicts.{network_within}
 use Rattle.tables.proofs.build.check_build.Goals as goal
 
 pub tables_short-requires : goal.tables_short-requires
-tables_short-requires c = network_within _ c.in_ok-check_network.ensures refl
+tables_short-requires c = network_within _ c.in_ok-checked.ensures.refusal refl

@@ -5,9 +5,10 @@ use native.Mathlib.Omega.{arith}
 use lib.ListN.{length}
 use Rattle.graph.specs.Network.{link, head}
 use Rattle.graph.proofs.Interfaces.{head_node}
+use Rattle.net.specs.Check.{Accepted}
 use Rattle.net.specs.Rows.{Rows, Present, network_of, head_of}
 use Rattle.net.specs.Limits.{most_nodes}
-use Rattle.net.proofs.Accepted.{well_formed}
+use Rattle.net.proofs.Accepted.{check_accepts, well_formed}
 use Rattle.net.proofs.Rows.{interface_present, head_of_lem}
 use Rattle.paths.specs.inner.Square.{column_for}
 use Rattle.paths.specs.declared.cost.Cost.{Cost}
@@ -19,7 +20,7 @@ use Rattle.tables.proofs.RowBytes.{forwarding_row}
 use Rattle.tables.proofs.Building.{row_room, filled_row}
 use Rattle.tables.proofs.build.fill_forwarding.Goals as goal
 
-module _ {R : Rows} {table : List ℕ} {all : List (List Cost)} {kept : List (List Kept)} (G : FillingByKept R table all kept)
+module _ {R : Rows} {table : List ℕ} {all : List (List Cost)} {kept : List (List Kept)} (A : Accepted R) (G : FillingByKept R table all kept)
     (h : ℕ) (interface : h < 2 * length R.low) where
   open R use {nodes as n, low, high}
 
@@ -38,39 +39,40 @@ module _ {R : Rows} {table : List ℕ} {all : List (List Cost)} {kept : List (Li
 
     -- a node of the network
     entered : i < n
-    entered = rw enters at (head_node (network_of R) (well_formed R G.filling.network) h present)
+    entered = rw enters at (head_node (network_of R) (well_formed R A) h present)
 
     -- and one of the square's rows
     entered_place : i < most_nodes
-    entered_place = omega (arith, entered, G.filling.network.few_nodes)
+    entered_place = omega (arith, entered, A.few_nodes)
 
 pub offset_bounds-rows-i : goal.offset_bounds-rows-i
-offset_bounds-rows-i c = omega (arith, entered_place c.requires c.loop-h.h (omega arith) c.head_of-i.ensures)
+offset_bounds-rows-i c = omega (arith, entered_place (check_accepts _ c.args.network.now.passed) c.requires c.loop-h.h (omega arith) c.head_of-i.ensures)
 
 pub bounds-rows-i : goal.bounds-rows-i
-bounds-rows-i c = omega (arith, entered_place c.requires c.loop-h.h (omega arith) c.head_of-i.ensures)
+bounds-rows-i c = omega (arith, entered_place (check_accepts _ c.args.network.now.passed) c.requires c.loop-h.h (omega arith) c.head_of-i.ensures)
 
 pub offset_bounds-found-i : goal.offset_bounds-found-i
-offset_bounds-found-i c = omega (arith, entered_place c.requires c.loop-h.h (omega arith) c.head_of-i.ensures)
+offset_bounds-found-i c = omega (arith, entered_place (check_accepts _ c.args.network.now.passed) c.requires c.loop-h.h (omega arith) c.head_of-i.ensures)
 
 pub bounds-found-i : goal.bounds-found-i
-bounds-found-i c = omega (arith, entered_place c.requires c.loop-h.h (omega arith) c.head_of-i.ensures)
+bounds-found-i c = omega (arith, entered_place (check_accepts _ c.args.network.now.passed) c.requires c.loop-h.h (omega arith) c.head_of-i.ensures)
 
 pub slice_bounds-fill_row-end : goal.slice_bounds-fill_row-end
-slice_bounds-fill_row-end c = omega (arith, row_end c.requires c.loop-h.h (omega arith))
+slice_bounds-fill_row-end c = omega (arith, row_end (check_accepts _ c.args.network.now.passed) c.requires c.loop-h.h (omega arith))
 
 pub loop-h-preserved : goal.loop-h-preserved
 unfolding column_for kept_for kept_at
 loop-h-preserved c =
     let given = c.requires in
+    let network = check_accepts _ c.args.network.now.passed in
     let at = c.loop-h in
-    let interface : at.h < 2 * length c.args.network.now.low.now = omega arith in
+    let interface : at.h < 2 * length c.args.network.now.rows.low.now = omega arith in
     let i = c.head_of-i.result.0 in
     let is = c.head_of-i.ensures in
-    let node = entered given at.h interface is in
-    filled_row at.invariant refl (row_end given at.h interface) _ c.forward_costs-costs.result
-    (forwarding_row _ given.filling.network _ c.forward_costs-costs.result c.args.all c.args.kept
-    given.filling.square given.keeps at.h (present given at.h interface) (enters given at.h interface is)
+    let node = entered network given at.h interface is in
+    filled_row at.invariant refl (row_end network given at.h interface) _ c.forward_costs-costs.result
+    (forwarding_row _ network _ c.forward_costs-costs.result c.args.all c.args.kept
+    given.filling.square given.keeps at.h (present network given at.h interface) (enters network given at.h interface is)
     (λ d destination.
     c.forward_costs-costs.ensures d destination
     ∙ ap₂ (forward_cost at.h) (turned_costs _ _ _ c.turned-rows.ensures i d node destination)

@@ -7,4 +7,4 @@ use Rattle.tables.proofs.build.fill_forwarding.Given as goal
 
 abbrev pub invariant-loop-h : goal.invariant-loop-h
 invariant-loop-h l =
-    Filled l.n l.h (ForwardingByte (network_of (rows_lent l.network))) l.initial.table l.table
+    Filled l.n l.h (ForwardingByte (network_of (rows_lent l.network.rows))) l.initial.table l.table

@@ -6,4 +6,4 @@ use Rattle.tables.proofs.build.fill_routing.Given as goal
 
 abbrev pub invariant-loop-i : goal.invariant-loop-i
 invariant-loop-i l =
-    Filled l.n l.i (RoutingByte (network_of (rows_lent l.network))) l.initial.table l.table
+    Filled l.n l.i (RoutingByte (network_of (rows_lent l.network.rows))) l.initial.table l.table

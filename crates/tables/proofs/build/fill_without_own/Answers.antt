@@ -9,7 +9,7 @@ use Rattle.net.specs.Rows.{Rows, network_of}
 use Rattle.net.specs.inner.LinkSet.{with_link, no_links, Without}
 use Rattle.net.specs.Check.{Accepted}
 use Rattle.net.specs.declared.link_set.LinkSet.{LinkSet}
-use Rattle.net.proofs.Accepted.{well_formed}
+use Rattle.net.proofs.Accepted.{check_accepts, well_formed}
 use Rattle.paths.specs.inner.Square.{BestSquare}
 use Rattle.paths.specs.declared.cost.Cost.{Cost}
 use Rattle.paths.proofs.ColumnEntry.{column_but}
@@ -27,29 +27,28 @@ without_best {R} network without is_empty is_only best d destination =
 
 pub loop-k-init : goal.loop-k-init
 loop-k-init c =
-    (filled_start _, rw c.none_kept-kept.ensures (kept_start _ c.requires.network.few_nodes c.args.all))
+    (filled_start _, rw c.none_kept-kept.ensures (kept_start _ (check_accepts _ c.args.network.now.passed).few_nodes c.args.all))
 
 pub note_link-next-requires : goal.note_link-next-requires
 note_link-next-requires c =
     let given = c.requires in
     record {
-      network = given.network;
       row = omega arith;
       square = given.square;
       square_without =
-          without_best given.network _ c.empty.ensures c.with_link-only.ensures (c.square_without-without.ensures given.square);
+          without_best (check_accepts _ c.args.network.now.passed) _ c.empty.ensures c.with_link-only.ensures (c.square_without-without.ensures given.square);
       keeps = c.loop-k.invariant.1;
     }
 
 pub loop-k-preserved : goal.loop-k-preserved
 loop-k-preserved c =
     let at = c.loop-k in
-    let n = c.args.network.now.nodes in
-    let network = c.requires.network in
+    let n = c.args.network.now.rows.nodes in
+    let network = check_accepts _ c.args.network.now.passed in
     let without = c.square_without-without.result in
-    let number : at.k < length c.args.network.now.low.now = omega arith in
+    let number : at.k < length c.args.network.now.rows.low.now = omega arith in
     let room : 2 * at.k * n + n + n ≤ length c.args.table.now =
-    rw (next_row (2 * at.k) n) (row_room {rows = 2 * length c.args.network.now.low.now} n (2 * at.k + 1) (omega arith) c.requires.room) in
+    rw (next_row (2 * at.k) n) (row_room {rows = 2 * length c.args.network.now.rows.low.now} n (2 * at.k + 1) (omega arith) c.requires.room) in
     let best = without_best network _ c.empty.ensures c.with_link-only.ensures (c.square_without-without.ensures c.requires.square) in
     let first = filled_row at.invariant.0 refl (omega arith) _ c.costs_of.result
     (own_row_from_low _ network _ c.costs_of.result without number best c.costs_of.ensures c.end_at-x.ensures)

@@ -10,5 +10,5 @@ use Rattle.tables.proofs.build.fill_without_own.Given as goal
 
 abbrev pub invariant-loop-k : goal.invariant-loop-k
 invariant-loop-k l =
-    Filled l.n (2 * l.k) (OwnByte (network_of (rows_lent l.network))) l.initial.table l.table
-    × SquareKept (network_of (rows_lent l.network)) l.k l.all l.kept
+    Filled l.n (2 * l.k) (OwnByte (network_of (rows_lent l.network.rows))) l.initial.table l.table
+    × SquareKept (network_of (rows_lent l.network.rows)) l.k l.all l.kept

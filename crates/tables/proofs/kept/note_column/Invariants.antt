@@ -7,4 +7,4 @@ use Rattle.tables.proofs.kept.note_column.Given as goal
 
 abbrev pub invariant-loop-i : goal.invariant-loop-i
 invariant-loop-i l =
-    NotedBelow (network_of (rows_lent l.network)) l.fn.destination.0 l.link.0 l.all l.initial.next l.i l.next
+    NotedBelow (network_of (rows_lent l.network.rows)) l.fn.destination.0 l.link.0 l.all l.initial.next l.i l.next

@@ -6,6 +6,7 @@ use lib.ListN.{length-set}
 use lib.Seq.{get_or-set_same, get_or-set_other}
 use Rattle.paths.specs.inner.Square.{column_for}
 use Rattle.tables.specs.inner.Detours.{kept_for}
+use Rattle.paths.proofs.Counts.{few_nodes}
 use Rattle.tables.proofs.kept.note_link.Goals as goal
 
 pub note_column-requires : goal.note_column-requires
@@ -15,7 +16,6 @@ note_column-requires c =
     let given = c.requires in
     let destination = c.loop-d-test.true in
     record {
-      network = given.network;
       row = given.row;
       column = given.square at.d destination;
       column_without = given.square_without at.d destination;
@@ -30,5 +30,5 @@ loop-d-preserved c =
       length-set at.next at.d column ∙ at.invariant.0,
       λ e h. get_or-set_other at.next at.d e column [] (λ q. omega arith) ∙ at.invariant.1 e (omega arith),
       below_more _ _ (λ e h. rw (get_or-set_other at.next at.d e column [] (λ q. omega arith)) (at.invariant.2 e h))
-          (rw (get_or-set_same at.next at.d column [] (omega arith)) c.note_column.ensures),
+          (rw (get_or-set_same at.next at.d column [] (omega (arith, few_nodes _ c.args.network.now.passed))) c.note_column.ensures),
     )

@@ -12,4 +12,4 @@ use Rattle.tables.proofs.kept.note_link.Given as goal
 abbrev pub invariant-loop-d : goal.invariant-loop-d
 invariant-loop-d l =
     (length l.next ≡ most_nodes) × ((e : ℕ) → l.d ≤ e → kept_for l.next e ≡ kept_for l.initial.next e)
-    × ((e : ℕ) → e < l.d → AllKept (network_of (rows_lent l.network)) e (suc l.link.0) (column_for l.all e) (kept_for l.next e))
+    × ((e : ℕ) → e < l.d → AllKept (network_of (rows_lent l.network.rows)) e (suc l.link.0) (column_for l.all e) (kept_for l.next e))

@@ -7,4 +7,4 @@ use Rattle.tables.proofs.key.keys_of.Given as goal
 
 abbrev pub invariant-loop-k : goal.invariant-loop-k
 invariant-loop-k l =
-    KeysBelow (network_of (rows_lent l.network)) l.fn.destination.0 l.h.0 l.k l.keys
+    KeysBelow (network_of (rows_lent l.network.rows)) l.fn.destination.0 l.h.0 l.k l.keys

@@ -8,7 +8,7 @@ loop-row-init g c deciding decides = no_rows _ _ _ _ _
 pub returns-then-not-row_passes : goal.returns-then-not-row_passes
 returns-then-not-row_passes g c deciding decides =
     row_fails _ _ _ deciding _ _ _ (decides _ _ c.loop-row-test.true c.decider.ensures) c.row_passes.ensures _ c.loop-row-test.true
-    c.if-not-row_passes.true c.requires.ready.room
+    c.if-not-row_passes.true c.requires.room
 
 pub loop-row-preserved : goal.loop-row-preserved
 loop-row-preserved g c deciding decides =
@@ -17,4 +17,4 @@ loop-row-preserved g c deciding decides =
 
 pub returns : goal.returns
 returns g c deciding decides =
-    all_rows _ _ _ _ _ _ _ c.loop-row.auto.row-end c.loop-row-test.false (c.loop-row.invariant deciding decides) c.requires.ready.room
+    all_rows _ _ _ _ _ _ _ c.loop-row.auto.row-end c.loop-row-test.false (c.loop-row.invariant deciding decides) c.requires.room

@@ -6,4 +6,4 @@ use Rattle.walk.proofs.lent.table_passes.Given as goal
 
 abbrev pub invariant-loop-row : goal.invariant-loop-row
 invariant-loop-row g l =
-    (deciding : ℕ → ℕ) → Decides (goal.F-post g l.decider) l.rows deciding → RowsPassed l.n l.network.low.now l.network.high.now deciding l.table l.row
+    (deciding : ℕ → ℕ) → Decides (goal.F-post g l.decider) l.rows deciding → RowsPassed l.n l.network.rows.low.now l.network.rows.high.now deciding l.table l.row

@@ -9,18 +9,18 @@ use Rattle.walk.proofs.lent.tables_pass.Goals as goal
 
 pub returns-then-not-table_passes : goal.returns-then-not-table_passes
 returns-then-not-table_passes c =
-    routes_fail (rows_lent c.args.network.now) _ (c.table_passes.ensures (λ (i : ℕ). i) (λ row node below answered. search rules))
+    routes_fail (rows_lent c.args.network.now.rows) _ (c.table_passes.ensures (λ (i : ℕ). i) (λ row node below answered. search rules))
     c.if-not-table_passes.true
 
 pub returns-then-not-table_passes-2 : goal.returns-then-not-table_passes-2
 returns-then-not-table_passes-2 c =
-    let R = rows_lent c.args.network.now in
+    let R = rows_lent c.args.network.now.rows in
     forwards_fail R _ (c.table_passes.ensures (λ (i : ℕ). i) (λ row node below answered. search rules)) c.if-not-table_passes.false
     (c.table_passes-2.ensures (head_of R.low R.high) (λ row node below answered. search rules)) c.if-not-table_passes-2.true
 
 pub returns : goal.returns
 returns c =
-    let R = rows_lent c.args.network.now in
+    let R = rows_lent c.args.network.now.rows in
     backwards_decide R _ (c.table_passes.ensures (λ (i : ℕ). i) (λ row node below answered. search rules)) c.if-not-table_passes.false
     (c.table_passes-2.ensures (head_of R.low R.high) (λ row node below answered. search rules)) c.if-not-table_passes-2.false
     (c.table_passes-3.ensures (tail_of R.low R.high) (λ row node below answered. search rules))

@@ -4,8 +4,7 @@
 -- walk is the whole. That is what the forwarding move's loop keeps (`Along`): whatever the rest of the walk answers and leaves from where
 -- the packet now stands, the whole walk does. An interface that the look-up names has its row in both tables.
 use Rattle.std.proofs.Common.{◌+◌, ◌*◌}
-use Rattle.net.specs.Lent.{rows_lent}
-use Rattle.tables.specs.Lent.{tables_lent}
+use Rattle.walk.specs.inner.Reading.{rows_checked, tables_checked}
 use Rattle.walk.proofs.Courses.{Along}
 use Rattle.walk.proofs.moves.+moves.Given as goal
 
@@ -18,7 +17,7 @@ decreases-forwarding_move l = 2 * l.packet.left + 1
 -- the packet goes along working links, and at each the hops left fall
 abbrev pub invariant-forwarding_move-loop-question : goal.invariant-forwarding_move-loop-question
 invariant-forwarding_move-loop-question l =
-    Along (rows_lent l.network) (tables_lent l.tables) l.question l.fn.packet l.fn.trace l.here l.trace
+    Along (rows_checked l.checked) (tables_checked l.checked) l.question l.fn.packet l.fn.trace l.here l.trace
 
 abbrev pub decreases-forwarding_move-loop-question : goal.decreases-forwarding_move-loop-question
 decreases-forwarding_move-loop-question l = l.here.left

@@ -1,7 +1,7 @@
 -- One verdict and one branch. Where nothing is refused, the step is made at the start node with its routing entry, or at the head of the
 -- interface entered with its forwarding entry.
 use Prim.Native.Nat.{ℕ, ◌+◌, ◌*◌, ◌^◌, ◌<◌, ◌≤◌}
-use mathlib.Core.Path.{◌≡◌, refl, sym, ap, ◌∙◌}
+use mathlib.Core.Path.{◌≡◌, refl, sym, ap, subst, ◌∙◌}
 use native.Mathlib.Omega.{arith}
 use lib.ListN.{length}
 use mir.Syntax.{w64}
@@ -13,9 +13,12 @@ use Rattle.net.specs.Rows.{Rows, head_of}
 use Rattle.net.specs.Check.{Accepted}
 use Rattle.net.proofs.Told.{number_refuses}
 use Rattle.net.proofs.Rows.{head_of_lem}
-use Rattle.tables.specs.Lent.{LentTables, LongEnough}
-use Rattle.walk.specs.Lent.{lent_verdict}
-use Rattle.walk.specs.Step.{step_number, step_of, stepped_told, step_answer}
+use Rattle.net.specs.Lent.{rows_lent}
+use Rattle.net.specs.declared.lent_rows.LentRows.{LentRows}
+use Rattle.tables.specs.Lent.{LentTables, LongEnough, tables_lent}
+use Rattle.tables.specs.declared.lent.Tables.{Tables}
+use Rattle.walk.specs.Lent.{hop_at, lent_verdict}
+use Rattle.walk.specs.Step.{step_number, step_at, step_of, stepped_told, step_answer}
 use Rattle.walk.specs.inner.Reading.{Ready}
 use Rattle.walk.specs.inner.Steps.{Placed}
 use Rattle.walk.specs.declared.question.Question.{Question}
@@ -62,8 +65,8 @@ module _ (R : Rows) (T : LentTables) (asked : Asked) (question : Question) {verd
     routing_within = place_within _ _ _ _ start_row destination
 
     -- the step at the start node may be asked
-    placed_start : Placed R T question node.0
-    placed_start = record { ready = ready; destination = destination; node = node_below }
+    placed_start : Placed R question node.0
+    placed_start = record { destination = destination; node = node_below }
 
     module _ (table : length T.routing < 2 ^ 64) where
       routing_row_fits : Fits w64 (node.0 * R.nodes)
@@ -85,10 +88,9 @@ module _ (R : Rows) (T : LentTables) (asked : Asked) (question : Question) {verd
 
     -- the step at the head of the interface may be asked
     placed_arrival : {i : ℕ} → i ≡ head_of R.low R.high h.0
-        → Placed R T question i
+        → Placed R question i
     placed_arrival told =
         record {
-          ready = ready;
           destination = destination;
           node = rw (told ∙ sym (head_of_lem R h.0)) (enters_node ready h.0 interface_below);
         }
@@ -104,45 +106,63 @@ module _ (R : Rows) (T : LentTables) (asked : Asked) (question : Question) {verd
   step_made : step_of R T asked question ≡ step_answer R T asked question
   step_made = step_taken R T asked question (judged ∙ ap (lent_verdict R T) numbered) free
 
-pub returns-in_err-check_lent : goal.returns-in_err-check_lent
-returns-in_err-check_lent c =
+-- what is known beside the rows lent is known beside the checked network, and the step over the checked tables is that over what was lent
+placed_same : {network lent : LentRows} → network ≡ lent → {question : Question} {i : ℕ} → Placed (rows_lent lent) question i
+    → Placed (rows_lent network) question i
+placed_same same {question} {i} = subst (λ (rows : LentRows). Placed (rows_lent rows) question i) (sym same)
+
+step_same : {network lent : LentRows} {tables tables_given : Tables} → network ≡ lent → tables ≡ tables_given
+    → (question : Question) (i byte : ℕ)
+    → step_at (rows_lent network) (tables_lent tables) question i (hop_at network.low.now network.high.now i byte)
+    ≡ step_at (rows_lent lent) (tables_lent tables_given) question i (hop_at lent.low.now lent.high.now i byte)
+step_same same_network same_tables question i byte =
+    λ t. step_at (rows_lent (same_network t)) (tables_lent (same_tables t)) question i
+    (hop_at (same_network t).low.now (same_network t).high.now i byte)
+
+pub returns-in_err-checked : goal.returns-in_err-checked
+returns-in_err-checked c =
     ap stepped_told (handed _ _ c.from_residual.ensures.1)
-    ∙ step_refused _ _ _ _ (c.in_err-check_lent.ensures ∙ ap (lent_verdict _ _) c.check_step.ensures)
-    (number_refuses c.in_err-check_lent.field-0.0.refusal)
+    ∙ step_refused _ _ _ _ (c.in_err-checked.ensures.refusal ∙ ap (lent_verdict _ _) c.check_step.ensures)
+    (number_refuses c.in_err-checked.field-0.0.refusal)
 
 pub overflow_mul-i : goal.overflow_mul-i
-overflow_mul-i c = routing_row_fits _ _ _ _ c.in_ok-check_lent.ensures c.check_step.ensures refl c.in-Start.is (omega arith)
+overflow_mul-i c = routing_row_fits _ _ _ _ c.in_ok-checked.ensures.refusal c.check_step.ensures refl c.in-Start.is (omega arith)
 
 pub overflow_add-i : goal.overflow_add-i
-overflow_add-i c = routing_place_fits _ _ _ _ c.in_ok-check_lent.ensures c.check_step.ensures refl c.in-Start.is (omega arith)
+overflow_add-i c = routing_place_fits _ _ _ _ c.in_ok-checked.ensures.refusal c.check_step.ensures refl c.in-Start.is (omega arith)
 
 pub bounds-tables-i : goal.bounds-tables-i
-bounds-tables-i c = routing_within _ _ _ _ c.in_ok-check_lent.ensures c.check_step.ensures refl c.in-Start.is
+bounds-tables-i c = routing_within _ _ _ _ c.in_ok-checked.ensures.refusal c.check_step.ensures refl c.in-Start.is
 
 pub step_at-requires : goal.step_at-requires
-step_at-requires c = placed_start _ _ _ _ c.in_ok-check_lent.ensures c.check_step.ensures refl c.in-Start.is
+step_at-requires c =
+    placed_same c.in_ok-checked.ensures.same_network
+    (placed_start _ _ _ _ c.in_ok-checked.ensures.refusal c.check_step.ensures refl c.in-Start.is)
 
 pub overflow_mul-h : goal.overflow_mul-h
-overflow_mul-h c = forwarding_row_fits _ _ _ _ c.in_ok-check_lent.ensures c.check_step.ensures refl c.in-Arrival.is (omega arith)
+overflow_mul-h c = forwarding_row_fits _ _ _ _ c.in_ok-checked.ensures.refusal c.check_step.ensures refl c.in-Arrival.is (omega arith)
 
 pub overflow_add-h : goal.overflow_add-h
-overflow_add-h c = forwarding_place_fits _ _ _ _ c.in_ok-check_lent.ensures c.check_step.ensures refl c.in-Arrival.is (omega arith)
+overflow_add-h c = forwarding_place_fits _ _ _ _ c.in_ok-checked.ensures.refusal c.check_step.ensures refl c.in-Arrival.is (omega arith)
 
 pub bounds-tables-h : goal.bounds-tables-h
-bounds-tables-h c = forwarding_within _ _ _ _ c.in_ok-check_lent.ensures c.check_step.ensures refl c.in-Arrival.is
+bounds-tables-h c = forwarding_within _ _ _ _ c.in_ok-checked.ensures.refusal c.check_step.ensures refl c.in-Arrival.is
 
 pub step_at-requires-in-Arrival : goal.step_at-requires-in-Arrival
 step_at-requires-in-Arrival c =
-    placed_arrival _ _ _ _ c.in_ok-check_lent.ensures c.check_step.ensures refl c.in-Arrival.is c.head_of.ensures
+    placed_same c.in_ok-checked.ensures.same_network
+    (placed_arrival _ _ _ _ c.in_ok-checked.ensures.refusal c.check_step.ensures refl c.in-Arrival.is c.head_of.ensures)
 
 pub returns-in-Start : goal.returns-in-Start
 returns-in-Start c =
     c.step_at.ensures
+    ∙ step_same c.in_ok-checked.ensures.same_network c.in_ok-checked.ensures.same_tables _ _ _
     ∙ start_steps _ _ _ _ _ c.in-Start.is
-    ∙ step_made _ _ _ _ c.in_ok-check_lent.ensures c.check_step.ensures refl
+    ∙ step_made _ _ _ _ c.in_ok-checked.ensures.refusal c.check_step.ensures refl
 
 pub returns-in-Arrival : goal.returns-in-Arrival
 returns-in-Arrival c =
     c.step_at-in-Arrival.ensures
+    ∙ step_same c.in_ok-checked.ensures.same_network c.in_ok-checked.ensures.same_tables _ _ _
     ∙ arrival_steps _ _ _ _ _ _ c.in-Arrival.is (c.head_of.ensures ∙ sym (head_of_lem _ c.in-Arrival.h.0))
-    ∙ step_made _ _ _ _ c.in_ok-check_lent.ensures c.check_step.ensures refl
+    ∙ step_made _ _ _ _ c.in_ok-checked.ensures.refusal c.check_step.ensures refl
