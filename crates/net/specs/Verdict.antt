@@ -1,7 +1,7 @@
 -- A refusal by number, with its place: what every entry tells of an input.
 use Rattle.std.specs.Prelude.{ℕ}
 
--- "the number and the place"; both are 0 where nothing is refused
+-- "answers with the number and a place"; "Success has number 0, place 0"
 pub record Verdict : Type 0 where
   pub number : ℕ
   pub place : ℕ

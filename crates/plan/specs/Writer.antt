@@ -9,7 +9,7 @@ use Rattle.net.specs.Check.{check_network, or_else, refused_if}
 use Rattle.net.specs.Verdict.{Verdict}
 use Rattle.plan.specs.Plan.{plan_of}
 
--- "The plan writer answers with their count", and as every entry with a number and a place.
+-- "the plan writer answers with their count", and as every entry with a number and a place
 pub record Written : Type 0 where
   pub number : ℕ
   pub place : ℕ
