@@ -9,7 +9,7 @@ use Rattle.net.specs.declared.interface.Interface.{Interface}
 use Rattle.net.specs.Told.{unplaced as placed_nowhere}
 use Rattle.net.specs.declared.refusal.Refusal.{Refusal}
 use Rattle.net.specs.declared.refusal.PlacedRefusal.{PlacedRefusal}
-use Rattle.net.proofs.Told.{told_once, number_told_once}
+use Rattle.net.proofs.Told.{told_once, number_told_once, verdict_once}
 use Rattle.net.proofs.failure.check_failure.Reads as check_failure_contract
 use Rattle.net.proofs.check.check_network.Reads as check_network_contract
 use Rattle.net.proofs.check.descends.Reads as descends_contract
@@ -17,6 +17,7 @@ use Rattle.net.proofs.check.lighter_twin.Reads as lighter_twin_contract
 use Rattle.net.proofs.check.end_at.Reads as end_at_contract
 use Rattle.net.proofs.check.bad_weight.Reads as bad_weight_contract
 use Rattle.net.proofs.check.bad_node_count.Reads as bad_node_count_contract
+use Rattle.net.proofs.refusal.unplaced.Reads as unplaced_contract
 use Rattle.net.proofs.entry.onward.Reads as onward_contract
 use Rattle.net.proofs.failure.fails.Reads as fails_contract
 use Rattle.net.proofs.failure.blocked.Reads as blocked_contract
@@ -74,9 +75,12 @@ fails a inputs x y e f p q = agree p q
 pub blocked : Determined blocked_contract.Learnt
 blocked a inputs x y e f p q = agree p q
 
+pub unplaced : Determined unplaced_contract.Learnt
+unplaced a inputs x y e f p q = verdict_once x y (agree p q)
+
 -- a refusal that names no place, by the law of its conversion
-pub unplaced : (refusal : Refusal) {x y : PlacedRefusal} → x ≡ placed_nowhere refusal → y ≡ placed_nowhere refusal → x ≡ y
-unplaced refusal p q = agree p q
+pub unplaced_refusal : (refusal : Refusal) {x y : PlacedRefusal} → x ≡ placed_nowhere refusal → y ≡ placed_nowhere refusal → x ≡ y
+unplaced_refusal refusal p q = agree p q
 
 -- a link, a node and an interface are their number
 abbrev link_numbered : ℕ → Link

@@ -6,11 +6,12 @@ use native.Mathlib.Omega.{arith}
 use Rattle.std.specs.Prelude.{Result, Ok, Err, [], ◌∷◌, slice_index_or}
 use Rattle.net.specs.Refusals.{accepted}
 use Rattle.net.specs.Verdict.{Verdict}
-use Rattle.net.specs.Told.{number_of, verdict_of, number_told, told}
+use Rattle.net.specs.Told.{number_of, verdict_said, verdict_of, number_told, told}
 use Rattle.net.specs.declared.refusal.Refusal.{Refusal}
 use Rattle.net.specs.declared.refusal.Refusal.TheVariants.{BytesEnd, NumberForm, NodeCount, LinkCount, LinkEnds, LinkWeight, LinkOrder, BytesLeft}
 use Rattle.net.specs.declared.refusal.Refusal.TheVariants.{RowLengths, Room, NodeNumber, FailedLink, InterfaceNumber, TableLength, TraceLength, TableEntry}
 use Rattle.net.specs.declared.refusal.PlacedRefusal.{PlacedRefusal}
+use Rattle.net.specs.declared.refusal.Verdict.{Verdict as VerdictSaid}
 
 -- the refusal of a number; of one that no refusal has, any
 numbered : ℕ → Refusal
@@ -70,6 +71,13 @@ pub refusal_once : (a b : PlacedRefusal) → verdict_of a ≡ verdict_of b → a
 refusal_once a b e =
     let same = number_once a.refusal b.refusal (ap (λ (v : Verdict). v.number) e) in
     ap (λ r. placed r a.place) same ∙ ap (placed b.refusal) (ap (λ (v : Verdict). v.place) e)
+
+abbrev said : Verdict → VerdictSaid
+said v = record { number = v.number; place = v.place }
+
+-- number and place are all of a verdict
+pub verdict_once : (x y : VerdictSaid) → verdict_said x ≡ verdict_said y → x ≡ y
+verdict_once x y e = ap said e
 
 -- two answers that tell one number, or one number and place, are one answer
 pub number_told_once : (x y : Result Unit Refusal) → number_told x ≡ number_told y → x ≡ y

@@ -8,6 +8,7 @@ use Rattle.net.specs.declared.refusal.Refusal.{Refusal}
 use Rattle.net.specs.declared.refusal.Refusal.TheVariants.{BytesEnd, NumberForm, NodeCount, LinkCount, LinkEnds, LinkWeight, LinkOrder, BytesLeft}
 use Rattle.net.specs.declared.refusal.Refusal.TheVariants.{RowLengths, Room, NodeNumber, FailedLink, InterfaceNumber, TableLength, TraceLength, TableEntry}
 use Rattle.net.specs.declared.refusal.PlacedRefusal.{PlacedRefusal}
+use Rattle.net.specs.declared.refusal.Verdict.{Verdict as VerdictSaid}
 
 abbrev pub number_of : Refusal → ℕ
 number_of BytesEnd = bytes_end
@@ -26,6 +27,10 @@ number_of InterfaceNumber = interface_number
 number_of TableLength = table_length
 number_of TraceLength = trace_length
 number_of TableEntry = table_entry
+
+-- a verdict of the code, number and place
+abbrev pub verdict_said : VerdictSaid → Verdict
+verdict_said v = record { number = v.number; place = v.place }
 
 abbrev pub verdict_of : PlacedRefusal → Verdict
 verdict_of r = record { number = number_of r.refusal; place = r.place }

@@ -20,4 +20,4 @@ pub use failure::{Failure, blocked, check_failure, fails};
 pub use interface::{Interface, Link, Node, link_of, reverse_of};
 pub use lent_rows::{LentRows, Network};
 pub use link_set::LinkSet;
-pub use refusal::{PlacedRefusal, Refusal};
+pub use refusal::{PlacedRefusal, Refusal, Verdict, unplaced};

@@ -1,7 +1,8 @@
 // The refusals of document 01 by name and number, here and nowhere else in code. specs/Refusals.antt says the same numbers to the
 // contracts, and specs/Told.antt which of them each refusal has.
 ghost use Rattle.std.specs.Prelude.{◌≡◌};
-ghost use Rattle.net.specs.Told.{number_of, unplaced};
+ghost use Rattle.net.specs.Check.{verdict};
+ghost use Rattle.net.specs.Told.{number_of, unplaced, verdict_said};
 
 #[derive(Clone, Copy, PartialEq, Eq)]
 pub enum Refusal {
@@ -55,4 +56,19 @@ impl From<Refusal> for PlacedRefusal {
     fn from(refusal: Refusal) -> PlacedRefusal {
         refusal.at(0)
     }
+}
+
+// A number with its place, as answers are told: of a refusal, or 0 and 0 where nothing is refused; and of any other byte too, which no
+// `Refusal` holds.
+#[derive(Clone, Copy, PartialEq, Eq)]
+pub struct Verdict {
+    pub number: u8,
+    pub place: usize,
+}
+
+// The verdict of a number that names no place.
+pub fn unplaced(number: u8) -> Verdict
+    ensures { verdict_said result ≡ verdict number }
+{
+    Verdict { number, place: 0 }
 }

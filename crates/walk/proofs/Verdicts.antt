@@ -2,17 +2,18 @@
 -- walk 15. The first that holds decides; where none does, the network is accepted, the question was taken and the tables are as long as
 -- their rows.
 use Prim.Native.Nat.{ℕ, ◌≤◌, ◌<◌}
-use mathlib.Core.Bool.{true, false, not}
-use mathlib.Core.Path.{◌≡◌, sym, ap, ◌∙◌}
+use mathlib.Core.Bool.{Bool, true, false, not}
+use mathlib.Core.Path.{◌≡◌, refl, sym, ap, ◌∙◌}
 use mathlib.Core.Logic.{◌≢◌}
 use mathlib.Core.List.{List}
+use native.Mathlib.Decide.{ℕ_discrete}
 use native.Mathlib.Omega.{arith}
 use borrow.Author.Tests.{le-leb, lt-leb, leb-false, eq-eqb, ne_eqb}
 use lib.ListN.{length}
 use lib.Dec.{leb}
 use Rattle.net.specs.Refusals.{accepted, table_length, table_entry, trace_length}
 use Rattle.net.specs.Rows.{Rows, network_of}
-use Rattle.net.specs.Check.{check_network, verdict, refused_if, Accepted}
+use Rattle.net.specs.Check.{check_network, verdict, or_else, refused_if, Accepted}
 use Rattle.net.specs.Verdict.{Verdict}
 use Rattle.net.proofs.Accepted.{check_accepts, accepts_check}
 use Rattle.net.proofs.Verdicts.{or_else_first, or_else_second, first_accepted, second_accepted, is_refused, not_refused, passed_test}
@@ -31,6 +32,14 @@ use Rattle.walk.specs.declared.steps.Asked.{Asked}
 
 abbrev pub number_of : Verdict → ℕ
 number_of v = v.number
+
+either_placeless : (short other : Bool) → let either = or_else (refused_if short table_length) (refused_if other table_entry) in
+    verdict either.number ≡ either
+unfolding or_else refused_if
+either_placeless true true = refl
+either_placeless true false = refl
+either_placeless false true = refl
+either_placeless false false = refl
 
 -- 14, then 16
 module _ (R : Rows) (T : LentTables) where
@@ -65,6 +74,11 @@ module _ (R : Rows) (T : LentTables) where
   tables_fine : (tables_verdict R T).number ≡ accepted → LongEnough n links T
   tables_fine e = tables_long (tables_enough e)
 
+  -- neither 14 nor 16 has a place
+  tables_placeless : verdict (tables_verdict R T).number ≡ tables_verdict R T
+  unfolding tables_verdict
+  tables_placeless = either_placeless (tables_short n links T) (not (tables_pass n R.low R.high T))
+
   -- the network, the question, the tables
   module _ (question : ℕ) where
     module _ {network : Verdict} (checked : network ≡ check_network R) where
@@ -80,6 +94,22 @@ module _ (R : Rows) (T : LentTables) where
         pub tables_decide : question ≡ accepted → tables_verdict R T ≡ lent_verdict R T question
         unfolding lent_verdict
         tables_decide e = sym (rw (← checked) (or_else_second network _ fine ∙ or_else_second (verdict question) _ e))
+
+    network_first : (lent_verdict R T question).number ≡ accepted → (check_network R).number ≡ accepted
+    unfolding lent_verdict
+    network_first fine = first_accepted _ _ fine
+
+    -- past the network no refusal has a place
+    pub past_network : (check_network R).number ≡ accepted → {number : ℕ} → number ≡ (lent_verdict R T question).number
+        → verdict number ≡ lent_verdict R T question
+    past_network fine told =
+        elim (ℕ_discrete question accepted) [
+          | yes e ↦ let by_tables = tables_decide refl fine e in ap verdict (told ∙ sym (ap number_of by_tables)) ∙ tables_placeless ∙ by_tables
+          | no other ↦ let by_question = question_refused refl fine other in ap verdict (told ∙ sym (ap number_of by_question)) ∙ by_question
+        ]
+
+    pub nothing_refused : accepted ≡ (lent_verdict R T question).number → verdict accepted ≡ lent_verdict R T question
+    nothing_refused told = past_network (network_first (sym told)) told
 
     -- what is known where nothing is refused
     module _ {v : Verdict} (judged : v ≡ lent_verdict R T question) (fine : v.number ≡ accepted) where

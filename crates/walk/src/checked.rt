@@ -5,7 +5,7 @@ ghost use Rattle.net.specs.Told.{number_told, told};
 ghost use Rattle.tables.specs.Lent.{tables_lent, tables_short};
 ghost use Rattle.walk.specs.Lent.{lent_verdict};
 
-use crate::lent::check_tables;
+use crate::lent::check_lent;
 use net::{CheckedRows, LentRows, PlacedRefusal, Refusal};
 use tables::Tables;
 
@@ -19,8 +19,7 @@ pub struct CheckedTables<'a> {
 }
 
 impl<'a> CheckedTables<'a> {
-    // What is lent as checked tables, or the refusal of every entry that reads tables: the network's, then that of what is asked, then 14
-    // and 16.
+    // What is lent as checked tables, or the refusal of every entry that reads tables.
     pub fn of(
         network: &LentRows<'a>,
         asked: Result<(), Refusal>,
@@ -30,11 +29,9 @@ impl<'a> CheckedTables<'a> {
         ensures same_network { IfOk result (λ checked. checked.network.rows ≡ network.now) }
         ensures same_tables { IfOk result (λ checked. checked.tables ≡ tables.now) }
     {
-        let network = network.checked()?;
-        asked?;
-        check_tables(&network, tables)?;
+        check_lent(network, asked, tables)?;
         Ok(CheckedTables {
-            network,
+            network: CheckedRows { rows: *network },
             tables: *tables,
         })
     }

@@ -2,13 +2,15 @@
 ghost use Rattle.std.specs.Prelude.{◌≡◌, ◌*◌, ◌≤◌, ℕ, length};
 ghost use Rattle.net.specs.Check.{verdict};
 ghost use Rattle.net.specs.Lent.{rows_lent};
-ghost use Rattle.net.specs.Told.{number_told, told};
+ghost use Rattle.net.specs.Told.{number_told, verdict_said, told};
 ghost use Rattle.tables.specs.Lent.{tables_lent, LongEnough};
 ghost use Rattle.walk.specs.Lent.{hop_at, byte_passes, table_passes, tables_pass, tables_verdict, lent_verdict};
 ghost use Rattle.walk.specs.inner.Reading.{found_by, row_passes, Decides};
 
-use crate::checked::CheckedTables;
-use net::{CheckedRows, Interface, LentRows, Node, PlacedRefusal, Refusal, entry};
+use net::{
+    CheckedRows, Interface, LentRows, Node, PlacedRefusal, Refusal, Verdict, check_network, entry,
+    unplaced,
+};
 use tables::Tables;
 use tables::inner::tables_short;
 
@@ -124,8 +126,45 @@ pub fn check_tables(network: &CheckedRows<'_>, tables: &Tables<'_>) -> Result<()
     Ok(())
 }
 
-// The refusal of every entry that reads tables, where the tables are not to be kept. The entries call `CheckedTables::of`; this one stays,
-// since docs/CONTRACTS.md and proofs/Determined.antt promise it.
+// The network's refusal, then that of what is asked, then 14 and 16, each without its place. This one function is lent rows and tables one
+// by one, is no part of its callers, and answers in two registers: so the compiler sees that it changes nothing, and takes it out of a loop
+// that walks over the same tables again and again. Lent by reference, or answered with a place, it would be asked for each walk.
+#[inline(never)]
+fn lent_fault<'a>(
+    nodes: usize,
+    low: &'a [u8],
+    high: &'a [u8],
+    weight: &'a [u32],
+    asked: Result<(), Refusal>,
+    routing: &'a [u8],
+    forwarding: &'a [u8],
+    backwarding: &'a [u8],
+) -> Result<(), Refusal>
+    ensures { number_told result ≡ (lent_verdict
+        (record { nodes = nodes; low = low.now; high = high.now; weight = weight.now })
+        (record { routing = routing.now; forwarding = forwarding.now; backwarding = backwarding.now }) (number_told asked)).number }
+{
+    let network = LentRows {
+        nodes,
+        low,
+        high,
+        weight,
+    };
+    let checked = match network.checked() {
+        Ok(checked) => checked,
+        Err(refused) => return Err(refused.refusal),
+    };
+    asked?;
+    let tables = Tables {
+        routing,
+        forwarding,
+        backwarding,
+    };
+    check_tables(&checked, &tables)
+}
+
+// The refusal of every entry that reads tables. `CheckedTables::of` asks it, and keeps what is lent. Only the network's has a place of its
+// own, for which it is checked once more.
 pub fn check_lent(
     network: &LentRows<'_>,
     asked: Result<(), Refusal>,
@@ -133,6 +172,47 @@ pub fn check_lent(
 ) -> Result<(), PlacedRefusal>
     ensures { told result ≡ lent_verdict (rows_lent network.now) (tables_lent tables.now) (number_told asked) }
 {
-    CheckedTables::of(network, asked, tables)?;
-    Ok(())
+    let fault = lent_fault(
+        network.nodes,
+        network.low,
+        network.high,
+        network.weight,
+        asked,
+        tables.routing,
+        tables.forwarding,
+        tables.backwarding,
+    );
+    match fault {
+        Ok(()) => Ok(()),
+        Err(refusal) => {
+            check_network(network)?;
+            Err(refusal.at(0))
+        }
+    }
+}
+
+// Number and place of an answer's refusal; 0 and 0 where nothing is refused.
+fn verdict_told(answer: Result<(), PlacedRefusal>) -> Verdict
+    ensures { verdict_said result ≡ told answer }
+{
+    match answer {
+        Ok(()) => unplaced(0),
+        Err(refused) => Verdict {
+            number: refused.refusal.number(),
+            place: refused.place,
+        },
+    }
+}
+
+// The same of whatever number is asked, be it a refusal's, 0 or any other byte.
+pub fn lent_verdict(network: &LentRows<'_>, number: u8, tables: &Tables<'_>) -> Verdict
+    ensures { verdict_said result ≡ lent_verdict (rows_lent network.now) (tables_lent tables.now) number }
+{
+    if number == 0 {
+        return verdict_told(check_lent(network, Ok(()), tables));
+    }
+    match check_network(network) {
+        Ok(()) => unplaced(number),
+        Err(refused) => verdict_told(Err(refused)),
+    }
 }
