@@ -10,7 +10,7 @@ ghost use Rattle.net.specs.Told.{told};
 ghost use Rattle.text.specs.Bytes.{shifted_by, number_of};
 ghost use Rattle.text.specs.Batch.{rows_of};
 ghost use Rattle.text.specs.Taken.{TakesSome, TakesFewer};
-ghost use Rattle.text.specs.Written.{number_at_place, refused_text, hex_of};
+ghost use Rattle.text.specs.Written.{number_at_place, refused_text, hex_digit, hex_of};
 
 mod records;
 
@@ -68,15 +68,27 @@ pub fn print_refused<W: Write>(out: &mut W, refused: PlacedRefusal) -> io::Resul
     number_and_place(out, refused.refusal.number(), refused.place)
 }
 
-// Writes each byte as two hexadecimal digits in lower case.
+// Writes each byte as two hexadecimal digits in lower case. The two go out in one write, where the format `{byte:02x}` makes two of a byte
+// below 16: the programs write unbuffered, so that each is a call of the system.
 #[tactic(auto, using(crate::proofs::Written::digits_so_far))]
 pub fn hex<W: Write>(out: &mut W, bytes: &[u8]) -> io::Result<()>
     ensures { OnOk result (Appends (W.contents out.old) (W.contents out.new) (hex_of bytes.now)) }
 {
     for byte in bytes {
-        write!(out, "{byte:02x}")?;
+        text(out, &[digit(byte / 16), digit(byte % 16)])?;
     }
     Ok(())
+}
+
+fn digit(half: u8) -> u8
+    requires { half < 16 }
+    ensures { result ≡ hex_digit half }
+{
+    if half < 10 {
+        b'0' + half
+    } else {
+        b'a' - 10 + half
+    }
 }
 
 // The bytes as one number, low byte first; those past the eighth do not count.

@@ -46,14 +46,15 @@ pub fn answer_records<
     Ok(())
 }
 
-// Fills the first n weights, or all where there are fewer, 4 bytes each, low byte first. From where the input ends they stay.
-pub fn read_weights<R: Read>(input: &mut R, weights: &mut [u32], n: usize) -> io::Result<()> {
+// Fills the first n weights, or all where there are fewer, 4 bytes each, low byte first: false where the input ends before, or there are
+// fewer. From where the input ends they stay.
+pub fn read_weights<R: Read>(input: &mut R, weights: &mut [u32], n: usize) -> io::Result<bool> {
     for weight in weights.iter_mut().take(n) {
         let mut bytes = [0u8; 4];
         if !read(input, &mut bytes)? {
-            break;
+            return Ok(false);
         }
         *weight = u32::from_le_bytes(bytes);
     }
-    Ok(())
+    Ok(n <= weights.len())
 }
