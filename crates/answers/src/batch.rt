@@ -32,18 +32,24 @@ pub struct Table {
     pub bytes: [u8; TABLE],
 }
 
+// Before it is read.
+pub const NO_TABLE: Table = Table {
+    length: 0,
+    bytes: [0; TABLE],
+};
+
 impl Table {
+    // Reads the table where it stands: one that is answered would be copied.
+    pub fn read<R: Read>(&mut self, input: &mut R) -> io::Result<()> {
+        self.length = read_number(input, 2)?;
+        read(input, front_room(&mut self.bytes, self.length))?;
+        Ok(())
+    }
+
     // The table's bytes alone.
     pub fn lent(&self) -> &[u8] {
         front(&self.bytes, self.length)
     }
-}
-
-pub fn read_table<R: Read>(input: &mut R) -> io::Result<Table> {
-    let length = read_number(input, 2)?;
-    let mut bytes = [0u8; TABLE];
-    read(input, front_room(&mut bytes, length))?;
-    Ok(Table { length, bytes })
 }
 
 // The three tables of a record.
@@ -54,7 +60,19 @@ pub struct ThreeTables {
     pub backwarding: Table,
 }
 
+pub const NO_TABLES: ThreeTables = ThreeTables {
+    routing: NO_TABLE,
+    forwarding: NO_TABLE,
+    backwarding: NO_TABLE,
+};
+
 impl ThreeTables {
+    pub fn read<R: Read>(&mut self, input: &mut R) -> io::Result<()> {
+        self.routing.read(input)?;
+        self.forwarding.read(input)?;
+        self.backwarding.read(input)
+    }
+
     pub fn lent(&self) -> Tables<'_> {
         Tables {
             routing: self.routing.lent(),
@@ -62,17 +80,6 @@ impl ThreeTables {
             backwarding: self.backwarding.lent(),
         }
     }
-}
-
-pub fn read_tables<R: Read>(input: &mut R) -> io::Result<ThreeTables> {
-    let routing = read_table(input)?;
-    let forwarding = read_table(input)?;
-    let backwarding = read_table(input)?;
-    Ok(ThreeTables {
-        routing,
-        forwarding,
-        backwarding,
-    })
 }
 
 // One of two by a first byte, 0 or another, and a number.

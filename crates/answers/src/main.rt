@@ -7,7 +7,7 @@ mod batch;
 mod hash;
 mod walks;
 
-use batch::{TABLE, TRACE, read_asked, read_byte, read_failure, read_table, read_tables};
+use batch::{NO_TABLE, NO_TABLES, TABLE, TRACE, read_asked, read_byte, read_failure};
 use hash::{hash_bytes, print_hash};
 use net::{Interface, Node, PlacedRefusal, limit};
 use paths::BestPath;
@@ -101,7 +101,8 @@ fn best_line<R: Read, W: Write>(input: &mut R, out: &mut W) -> io::Result<()> {
 }
 
 fn row_line<R: Read, W: Write>(input: &mut R, out: &mut W) -> io::Result<()> {
-    let table = read_table(input)?;
+    let mut table = NO_TABLE;
+    table.read(input)?;
     let n = read_number(input, 8)?;
     let interface = read_number(input, 8)?;
     let number = match tables::check_row(table.lent(), n, Interface(interface)) {
@@ -112,18 +113,22 @@ fn row_line<R: Read, W: Write>(input: &mut R, out: &mut W) -> io::Result<()> {
     hex(out, tables::row_of(table.lent(), n, Interface(interface)))
 }
 
+// A step that is not refused has `0 at 0`, written here with the rest: standard output is not buffered, so that each part is a write.
 fn print_stepped<W: Write>(out: &mut W, stepped: Stepped) -> io::Result<()> {
     match stepped {
-        Stepped::Delivered => write!(out, "delivered"),
-        Stepped::NothingToFollow => write!(out, "nothing"),
-        Stepped::Dropped => write!(out, "dropped"),
-        Stepped::Next(node, interface) => write!(out, "next {} {}", node.0, interface.0),
+        Stepped::Delivered => write!(out, "step 0 at 0 delivered"),
+        Stepped::NothingToFollow => write!(out, "step 0 at 0 nothing"),
+        Stepped::Dropped => write!(out, "step 0 at 0 dropped"),
+        Stepped::Next(node, interface) => {
+            write!(out, "step 0 at 0 next {} {}", node.0, interface.0)
+        }
     }
 }
 
 fn step_line<R: Read, W: Write>(input: &mut R, out: &mut W) -> io::Result<()> {
     let rows = read_network(input)?;
-    let tables = read_tables(input)?;
+    let mut tables = NO_TABLES;
+    tables.read(input)?;
     let asked = read_asked(input)?;
     let destination = read_number(input, 8)?;
     let failure = read_failure(input)?;
@@ -134,12 +139,13 @@ fn step_line<R: Read, W: Write>(input: &mut R, out: &mut W) -> io::Result<()> {
         Node(destination),
         failure,
     );
-    write!(out, "step ")?;
-    print_told(out, &answer)?;
-    write!(out, " ")?;
     match answer {
         Ok(stepped) => print_stepped(out, stepped),
-        Err(_) => write!(out, "-"),
+        Err(_) => {
+            write!(out, "step ")?;
+            print_told(out, &answer)?;
+            write!(out, " -")
+        }
     }
 }
 
@@ -157,7 +163,8 @@ fn print_walk<W: Write>(
 
 fn walk_line<R: Read, W: Write>(input: &mut R, out: &mut W) -> io::Result<()> {
     let rows = read_network(input)?;
-    let tables = read_tables(input)?;
+    let mut tables = NO_TABLES;
+    tables.read(input)?;
     let source = read_number(input, 8)?;
     let destination = read_number(input, 8)?;
     let failure = read_failure(input)?;
@@ -200,7 +207,8 @@ fn all_line<R: Read, W: Write>(input: &mut R, out: &mut W) -> io::Result<()> {
 
 fn figures_line<R: Read, W: Write>(input: &mut R, out: &mut W) -> io::Result<()> {
     let rows = read_network(input)?;
-    let tables = read_tables(input)?;
+    let mut tables = NO_TABLES;
+    tables.read(input)?;
     let failure = read_failure(input)?;
     let answer = report::failure_line(&rows.lent(), &tables.lent(), failure);
     write!(out, "figures ")?;
