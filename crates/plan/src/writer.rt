@@ -76,7 +76,11 @@ pub fn write_plan(network: &LentRows<'_>, room: &mut [u8]) -> Result<usize, Plac
     ensures value { written_told result ≡ write_plan (rows_lent network.now) room.old }
     ensures room_after { room.new ≡ room_after (rows_lent network.now) room.old }
 {
-    let network = network.checked()?;
+    // Written out, as `?` leaves no value for the edit `refused_place_lost` to change.
+    let network = match network.checked() {
+        Ok(network) => network,
+        Err(refused) => return Err(refused),
+    };
     let count = plan_length(&network);
     if room.len() < count {
         return Err(Refusal::Room.at(0));

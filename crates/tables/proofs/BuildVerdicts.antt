@@ -25,7 +25,7 @@ module _ (R : Rows) where
     checked : v.number ≡ accepted → (check_network R).number ≡ accepted
     checked free = sym (ap (λ (u : Verdict). u.number) is) ∙ free
 
-    network_accepted : v.number ≡ accepted → Accepted R
+    pub network_accepted : v.number ≡ accepted → Accepted R
     network_accepted free = check_accepts R (checked free)
 
     -- so that its counts are within the limits
