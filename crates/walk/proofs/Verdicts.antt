@@ -33,13 +33,21 @@ use Rattle.walk.specs.declared.steps.Asked.{Asked}
 abbrev pub number_of : Verdict → ℕ
 number_of v = v.number
 
-either_placeless : (short other : Bool) → let either = or_else (refused_if short table_length) (refused_if other table_entry) in
-    verdict either.number ≡ either
-unfolding or_else refused_if
-either_placeless true true = refl
-either_placeless true false = refl
-either_placeless false true = refl
-either_placeless false false = refl
+-- a verdict without a place is told by its number
+abbrev Placeless : Verdict → Type 0
+Placeless v = verdict v.number ≡ v
+
+refused_if_placeless : (test : Bool) (number : ℕ) → Placeless (refused_if test number)
+unfolding refused_if
+refused_if_placeless true number = refl
+refused_if_placeless false number = refl
+
+or_else_placeless : (first second : Verdict) → Placeless first → Placeless second → Placeless (or_else first second)
+or_else_placeless first second p q =
+    elim (ℕ_discrete first.number accepted) [
+      | yes e ↦ let is = or_else_second first second e in ap verdict (ap number_of is) ∙ q ∙ sym is
+      | no other ↦ let is = or_else_first first second other in ap verdict (ap number_of is) ∙ p ∙ sym is
+    ]
 
 -- 14, then 16
 module _ (R : Rows) (T : LentTables) where
@@ -75,9 +83,9 @@ module _ (R : Rows) (T : LentTables) where
   tables_fine e = tables_long (tables_enough e)
 
   -- neither 14 nor 16 has a place
-  tables_placeless : verdict (tables_verdict R T).number ≡ tables_verdict R T
+  tables_placeless : Placeless (tables_verdict R T)
   unfolding tables_verdict
-  tables_placeless = either_placeless (tables_short n links T) (not (tables_pass n R.low R.high T))
+  tables_placeless = or_else_placeless _ _ (refused_if_placeless _ _) (refused_if_placeless _ _)
 
   -- the network, the question, the tables
   module _ (question : ℕ) where
@@ -102,11 +110,10 @@ module _ (R : Rows) (T : LentTables) where
     -- past the network no refusal has a place
     pub past_network : (check_network R).number ≡ accepted → {number : ℕ} → number ≡ (lent_verdict R T question).number
         → verdict number ≡ lent_verdict R T question
+    unfolding lent_verdict
     past_network fine told =
-        elim (ℕ_discrete question accepted) [
-          | yes e ↦ let by_tables = tables_decide refl fine e in ap verdict (told ∙ sym (ap number_of by_tables)) ∙ tables_placeless ∙ by_tables
-          | no other ↦ let by_question = question_refused refl fine other in ap verdict (told ∙ sym (ap number_of by_question)) ∙ by_question
-        ]
+        let is = or_else_second (check_network R) (or_else (verdict question) (tables_verdict R T)) fine in
+        ap verdict (told ∙ ap number_of is) ∙ or_else_placeless (verdict question) _ refl tables_placeless ∙ sym is
 
     pub nothing_refused : accepted ≡ (lent_verdict R T question).number → verdict accepted ≡ lent_verdict R T question
     nothing_refused told = past_network (network_first (sym told)) told
